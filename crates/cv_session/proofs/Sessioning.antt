@@ -1,5 +1,5 @@
 -- A session, exchange after exchange.
-use Rattle.std.proofs.Common.{◌≡◌, ◌+◌, ◌++◌, ◌∷◌, ℕ, suc, List, [], length, refl, ap, sym, subst, ◌∙◌, append-nil, append_assoc, arith, true, false, inl, inr, Ok, Err}
+use Rattle.std.proofs.Common.{◌≡◌, ◌≢◌, ◌+◌, ◌++◌, ◌∷◌, ℕ, suc, List, [], length, refl, ap, sym, subst, ◌∙◌, append-nil, append_assoc, arith, true, false, inl, inr, Ok, Err}
 use Rattle.std.specs.Prelude.{Option, Bool, ◌||◌, is_some}
 use Rattle.std.specs.declared.option.Option.TheVariants.{Some, None}
 use Rattle.std.specs.List.{AllByRecursion}
@@ -27,7 +27,7 @@ use Rattle.cv_session.specs.Responses.{unsaid, reply_of}
 use Rattle.cv_session.specs.ResponsesInner.{Does}
 use Rattle.cv_session.specs.Said.{IsLegible}
 use Rattle.cv_session.specs.Responses.{refused as refusal}
-use Rattle.cv_session.specs.Sessions.{Exchange, turns, calls_of, is_last, saying, sayings, IsWritten, IsAnswered, Opened, IsLast, Ended, by_bytes, full, unread, broken, broken_line, forgotten, silent, IsUpToDate, ReadsUpToDate, Session}
+use Rattle.cv_session.specs.Sessions.{Exchange, turns, calls_of, is_last, saying, sayings, IsWritten, IsAnswered, Opened, IsLast, Ended, by_bytes, full, unread, broken, broken_line, forgotten, silent, IsUpToDate, ReadsUpToDate, PassedOn, Session}
 use Rattle.cv_session.specs.Sessions.Comes.{request as next_request, fault as next_fault}
 use Rattle.cv_session.specs.Standing.{Standing, Made}
 use Rattle.cv_session.specs.declared.response.Response.{Response}
@@ -37,7 +37,7 @@ use Rattle.cv_session.specs.declared.request.Unread.{Unread}
 use Rattle.cv_session.specs.declared.request.Unread.TheVariants.{Fault, Unsaid}
 use Rattle.cv_session.specs.declared.session_end.SessionEnd.{SessionEnd}
 use Rattle.cv_session.specs.declared.session_end.SessionEnd.TheVariants.{Clean, Closed, Bad, WriteFault, NoMemory}
-use Rattle.cv_session.proofs.Endings.{end_of, goes_of, last_of}
+use Rattle.cv_session.proofs.Endings.{end_of, goes_of, last_of, by_unsaid}
 use Rattle.cv_session.proofs.Mades.{HasNone, HasMore, made_none, made_on}
 use Rattle.cv_session.proofs.Writing.{code_legible}
 
@@ -113,11 +113,11 @@ pub record SoFar {K : Type 0} (does : K → List Call → K → Type 0) (reposit
   pub reads : Fit exchanges
 
 -- how the session comes out, or how it goes on
-abbrev pub ComesOut : {K : Type 0} (does : K → List Call → K → Type 0) (repository : List ℕ) (keys : List Key) (seal : List ℕ → List ℕ) (Fit : List Exchange → Type 0) (b held : List ℕ) (taken : Option (List ℕ))
+abbrev pub ComesOut : {K : Type 0} (does : K → List Call → K → Type 0) (repository : List ℕ) (keys : List Key) (seal : List ℕ → List ℕ) (Fit : List Exchange → Type 0) (Passed : List ℕ → Type 0) (b held : List ℕ) (taken : Option (List ℕ))
     (before : Standing K) (count : ℕ)
     (taken' : Option (List ℕ)) (after : Standing K) → Option SessionEnd → Type 0
-ComesOut does repository keys seal Fit b held taken before count taken' after None = SoFar does repository keys seal Fit b held taken before count taken' after
-ComesOut does repository keys seal Fit b held taken before count taken' after (Some end) = Session does repository keys seal Fit b held taken taken' before after end
+ComesOut does repository keys seal Fit Passed b held taken before count taken' after None = SoFar does repository keys seal Fit b held taken before count taken' after
+ComesOut does repository keys seal Fit Passed b held taken before count taken' after (Some end) = Session does repository keys seal Fit Passed b held taken taken' before after end
 
 pub begin : {K : Type 0} (does : K → List Call → K → Type 0) → HasNone does → (repository : List ℕ) (keys : List Key) (seal : List ℕ → List ℕ) (Fit : List Exchange → Type 0) → Fit [] → (b : List ℕ) (o : Option (List ℕ)) (s : Standing K)
     → SoFar does repository keys seal Fit b b o s 0 o s
@@ -180,16 +180,16 @@ module _ {K : Type 0} {does : K → List Call → K → Type 0} {repository : Li
     made_last {after'} e made = subst (λ (calls : List Call). Made does before calls after') (sym (append-nil (calls_of (s.exchanges ++ e ∷ [])))) (made_one e made)
 
     -- the session ends with these exchanges
-    ends_here : {held : List ℕ} {taken'' : Option (List ℕ)} {end : SessionEnd} → Ended repository keys seal b held taken s.exchanges [] taken'' end → Session does repository keys seal Fit b held taken taken'' before after end
+    ends_here : {Passed : List ℕ → Type 0} {held : List ℕ} {taken'' : Option (List ℕ)} {end : SessionEnd} → Ended repository keys seal b Passed held taken s.exchanges [] taken'' end → Session does repository keys seal Fit Passed b held taken taken'' before after end
     ends_here ended_ = record { exchanges = s.exchanges; answered = s.answered_; legible = s.written_; others = []; ended = ended_; made = made_same; reads = s.reads }
 
-    ends_beside : {held : List ℕ} {taken'' : Option (List ℕ)} {after' : Standing K} {end : SessionEnd} (calls : List Call) → Made does after calls after' → Ended repository keys seal b held taken s.exchanges calls taken'' end
-        → Session does repository keys seal Fit b held taken taken'' before after' end
+    ends_beside : {Passed : List ℕ → Type 0} {held : List ℕ} {taken'' : Option (List ℕ)} {after' : Standing K} {end : SessionEnd} (calls : List Call) → Made does after calls after' → Ended repository keys seal b Passed held taken s.exchanges calls taken'' end
+        → Session does repository keys seal Fit Passed b held taken taken'' before after' end
     ends_beside calls made ended_ = record { exchanges = s.exchanges; answered = s.answered_; legible = s.written_; others = calls; ended = ended_; made = made_more calls made; reads = s.reads }
 
     -- the session ends with one exchange more
-    ends_with_one : {held : List ℕ} {taken'' : Option (List ℕ)} {after' : Standing K} {end : SessionEnd} (e : Exchange) → IsAnswered repository keys seal e → IsWritten e → Made does after e.calls after'
-        → Ended repository keys seal b held taken (s.exchanges ++ e ∷ []) [] taken'' end → Session does repository keys seal Fit b held taken taken'' before after' end
+    ends_with_one : {Passed : List ℕ → Type 0} {held : List ℕ} {taken'' : Option (List ℕ)} {after' : Standing K} {end : SessionEnd} (e : Exchange) → IsAnswered repository keys seal e → IsWritten e → Made does after e.calls after'
+        → Ended repository keys seal b Passed held taken (s.exchanges ++ e ∷ []) [] taken'' end → Session does repository keys seal Fit Passed b held taken taken'' before after' end
     ends_with_one e is written made ended_ = record {
       exchanges = s.exchanges ++ e ∷ [];
       answered = all_push (IsAnswered repository keys seal) s.exchanges e s.answered_ is;
@@ -203,7 +203,7 @@ module _ {K : Type 0} {does : K → List Call → K → Type 0} {repository : Li
     said_last : (e : Exchange) (taken'' : Option (List ℕ)) → taken'' ≡ onto taken' (saying e) → taken'' ≡ onto taken (sayings (s.exchanges ++ e ∷ []) ++ line_text false)
     said_last e taken'' took = said_one e taken'' took ∙ ap (onto taken) (sym (append-nil (sayings (s.exchanges ++ e ∷ []))))
 
-    pub ends_clean : {held : List ℕ} {taken'' : Option (List ℕ)} → later ≡ [] → held ≡ later → taken'' ≡ taken' → Session does repository keys seal Fit b held taken taken'' before after Clean
+    pub ends_clean : {Passed : List ℕ → Type 0} {held : List ℕ} {taken'' : Option (List ℕ)} → later ≡ [] → held ≡ later → taken'' ≡ taken' → Session does repository keys seal Fit Passed b held taken taken'' before after Clean
     ends_clean {taken'' = taken''} none still same =
         ends_here
         (by_bytes false Clean taken''
@@ -212,7 +212,7 @@ module _ {K : Type 0} {does : K → List Call → K → Type 0} {repository : Li
 
     -- a fault is answered
     module _ (none : HasNone does) (why : HttpFault) (code : Code) (is_bad : IsBad later why) (has_code : code_of_fault why ≡ Some code) where
-      ends_bad : {held : List ℕ} (taken'' : Option (List ℕ)) → taken'' ≡ onto taken' (reply_of (Fixed code) true) → Session does repository keys seal Fit b held taken taken'' before after (Bad why)
+      ends_bad : {Passed : List ℕ → Type 0} {held : List ℕ} (taken'' : Option (List ℕ)) → taken'' ≡ onto taken' (reply_of (Fixed code) true) → Session does repository keys seal Fit Passed b held taken taken'' before after (Bad why)
       unfolding refusing_one
       ends_bad taken'' took =
           ends_with_one (refusing_one code) (refusal code) (code_written code) (made_none does none after)
@@ -228,29 +228,31 @@ module _ {K : Type 0} {does : K → List Call → K → Type 0} {repository : Li
           tt
           (all_push IsGoing s.exchanges (refusing_one code) s.opened.open_ refl) (said_last (refusing_one code) taken'' took))
 
-      breaks_refusing : {held : List ℕ} (taken'' : Option (List ℕ)) → Wrote taken' taken'' (reply_of (Fixed code) true) → Session does repository keys seal Fit b held taken taken'' before after WriteFault
+      breaks_refusing : {Passed : List ℕ → Type 0} {held : List ℕ} (taken'' : Option (List ℕ)) → Wrote taken' taken'' (reply_of (Fixed code) true) → Passed (sayings s.exchanges ++ line_text false)
+          → Session does repository keys seal Fit Passed b held taken taken'' before after WriteFault
       unfolding refusing_one
-      breaks_refusing taken'' took =
+      breaks_refusing taken'' took passed =
           ends_beside [] (made_none does none after)
           (broken (refusing_one code) later taken'' s.opened (next_fault why code is_bad has_code refl) (refusal code) (code_written code)
-          (subst (λ (o : Option (List ℕ)). Wrote o taken'' (reply_of (Fixed code) true)) (said_line false taken' (onto_none taken')) took))
+          (subst (λ (o : Option (List ℕ)). Wrote o taken'' (reply_of (Fixed code) true)) (said_line false taken' (onto_none taken')) took) passed)
 
     -- without the line nothing was taken
     no_line : {line : Bool} {taken1 : Option (List ℕ)} → line ≡ false → taken1 ≡ onto taken' (line_text line) → taken1 ≡ taken'
     no_line {line} {taken1} is took = took ∙ ap (λ l. onto taken' (line_text l)) is ∙ sym (onto_none taken')
 
     -- the session ends where no turn was read
-    by_fault_end : (none : HasNone does) {held : List ℕ} (why : HttpFault) (line : Bool) (taken1 taken2 : Option (List ℕ)) (end : SessionEnd) → Reached later line → IsWhy later line why → taken1 ≡ onto taken' (line_text line)
-        → EndsBy (Fault why) taken1 taken2 end → Session does repository keys seal Fit b held taken taken2 before after end
-    by_fault_end none why line taken1 taken2 _ reached is took (refused other code same has said) =
+    by_fault_end : (none : HasNone does) {Passed : List ℕ → Type 0} {held : List ℕ} (why : HttpFault) (line : Bool) (taken1 taken2 : Option (List ℕ)) (end : SessionEnd) → Reached later line → IsWhy later line why → taken1 ≡ onto taken' (line_text line)
+        → (end ≡ WriteFault → line ≡ false → Passed (sayings s.exchanges ++ line_text false)) → EndsBy (Fault why) taken1 taken2 end → Session does repository keys seal Fit Passed b held taken taken2 before after end
+    by_fault_end none why line taken1 taken2 _ reached is took passed (refused other code same has said) =
         let here : why ≡ other = cc in
         let refuses = has_reply later line other code has (subst (IsWhy later line) here is) in
         ends_bad none other code refuses.0 has taken2 (said ∙ ap (λ o. onto o (reply_of (Fixed code) true)) (no_line refuses.1 took))
-    by_fault_end none why line taken1 taken2 _ reached is took (broken_off other code same has said) =
+    by_fault_end none why line taken1 taken2 _ reached is took passed (broken_off other code same has said) =
         let here : why ≡ other = cc in
         let refuses = has_reply later line other code has (subst (IsWhy later line) here is) in
         breaks_refusing none other code refuses.0 has taken2 (subst (λ (o : Option (List ℕ)). Wrote o taken2 (reply_of (Fixed code) true)) (no_line refuses.1 took) said)
-    by_fault_end none why line taken1 taken2 _ reached is took (cut_short same stays) =
+        (passed refl refuses.1)
+    by_fault_end none why line taken1 taken2 _ reached is took passed (cut_short same stays) =
         let here : why ≡ Short = cc in
         ends_here
         (by_bytes line (Bad Short) taken2
@@ -263,28 +265,29 @@ module _ {K : Type 0} {does : K → List Call → K → Type 0} {repository : Li
           ends_ = cut line (subst (IsWhy later line) here is);
         })
         tt s.opened.open_ (said_line line taken2 (stays ∙ took)))
-    by_fault_end none why line taken1 taken2 _ reached is took (not_read same stays) =
+    by_fault_end none why line taken1 taken2 _ reached is took passed (not_read same stays) =
         let here : why ≡ Unread_ = cc in
         ends_here (unread later line taken2 s.opened (subst (IsWhy later line) here is) (said_line line taken2 (stays ∙ took)))
-    by_fault_end none why line taken1 taken2 _ reached is took (no_memory other same read stays) = ends_here (forgotten later line taken2 s.opened reached (said_line line taken2 (stays ∙ took)))
-    by_fault_end none why line taken1 taken2 _ reached is took (not_said same stays) = cc
+    by_fault_end none why line taken1 taken2 _ reached is took passed (no_memory other same read stays) = ends_here (forgotten later line taken2 s.opened reached (said_line line taken2 (stays ∙ took)))
+    by_fault_end none why line taken1 taken2 _ reached is took passed (not_said same stays) = cc
 
-    by_line_end : {held : List ℕ} (taken1 taken2 : Option (List ℕ)) (end : SessionEnd) → Reached later true → Wrote taken' taken1 continue_line
-        → EndsBy Unsaid taken1 taken2 end → Session does repository keys seal Fit b held taken taken2 before after end
-    by_line_end taken1 taken2 _ reached took (refused other code same has said) = cc
-    by_line_end taken1 taken2 _ reached took (broken_off other code same has said) = cc
-    by_line_end taken1 taken2 _ reached took (cut_short same stays) = cc
-    by_line_end taken1 taken2 _ reached took (not_read same stays) = cc
-    by_line_end taken1 taken2 _ reached took (no_memory other same read stays) = cc
-    by_line_end taken1 taken2 _ reached took (not_said same stays) =
+    by_line_end : {Passed : List ℕ → Type 0} {held : List ℕ} (taken1 taken2 : Option (List ℕ)) (end : SessionEnd) → Reached later true → Wrote taken' taken1 continue_line → Passed (sayings s.exchanges)
+        → EndsBy Unsaid taken1 taken2 end → Session does repository keys seal Fit Passed b held taken taken2 before after end
+    by_line_end taken1 taken2 _ reached took passed (refused other code same has said) = cc
+    by_line_end taken1 taken2 _ reached took passed (broken_off other code same has said) = cc
+    by_line_end taken1 taken2 _ reached took passed (cut_short same stays) = cc
+    by_line_end taken1 taken2 _ reached took passed (not_read same stays) = cc
+    by_line_end taken1 taken2 _ reached took passed (no_memory other same read stays) = cc
+    by_line_end taken1 taken2 _ reached took passed (not_said same stays) =
         ends_here
         (broken_line later taken2 s.opened reached
-        (subst (λ (o : Option (List ℕ)). Wrote o taken2 continue_line) s.said (subst (λ (o : Option (List ℕ)). Wrote taken' o continue_line) (sym stays) took)))
+        (subst (λ (o : Option (List ℕ)). Wrote o taken2 continue_line) s.said (subst (λ (o : Option (List ℕ)). Wrote taken' o continue_line) (sym stays) took)) passed)
 
-    pub ends_by : (none : HasNone does) {held : List ℕ} {taken1 taken2 : Option (List ℕ)} {why : Unread} {end : SessionEnd} → Gets repository keys later held taken' taken1 (Err why)
-        → EndsBy why taken1 taken2 end → Session does repository keys seal Fit b held taken taken2 before after end
-    ends_by none {taken1 = taken1} {taken2 = taken2} {end = end} (fault why line reached is took) by = by_fault_end none why line taken1 taken2 end reached is took by
-    ends_by none {taken1 = taken1} {taken2 = taken2} {end = end} (line_unsaid reached took) by = by_line_end taken1 taken2 end reached took by
+    pub ends_by : (none : HasNone does) {Passed : List ℕ → Type 0} {held : List ℕ} {taken1 taken2 : Option (List ℕ)} {why : Unread} {end : SessionEnd} → Gets repository keys later held taken' taken1 (Err why)
+        → (why ≡ Unsaid → Passed (sayings s.exchanges)) → (why ≢ Unsaid → end ≡ WriteFault → taken1 ≡ taken' → Passed (sayings s.exchanges ++ line_text false)) → EndsBy why taken1 taken2 end → Session does repository keys seal Fit Passed b held taken taken2 before after end
+    ends_by none {taken1 = taken1} {taken2 = taken2} {end = end} (fault why line reached is took) in_line in_reply by =
+        by_fault_end none why line taken1 taken2 end reached is took (λ broke unlined. in_reply (λ e. cc) broke (no_line unlined took)) by
+    ends_by none {taken1 = taken1} {taken2 = taken2} {end = end} (line_unsaid reached took) in_line in_reply by = by_line_end taken1 taken2 end reached took (in_line refl) by
 
     -- the exchange of the request that comes next is the last
     last_one : {held : List ℕ} (t : Turned) → IsNext repository keys (length s.exchanges + 1) later t held → (e : Exchange) → e.asked ≡ t → IsLast repository keys seal b (s.exchanges ++ e ∷ []) held
@@ -299,7 +302,7 @@ module _ {K : Type 0} {does : K → List Call → K → Type 0} {repository : Li
 
     -- one request more
     module _ {held : List ℕ} (t : Turned) (next : IsNext repository keys (length s.exchanges + 1) later t held) {taken1 : Option (List ℕ)} (took_line : taken1 ≡ onto taken' (line_text t.waited)) {after' : Standing K} where
-      nothing_said : {taken2 : Option (List ℕ)} → Does does repository seal t.what None after after' → taken2 ≡ taken1 → Session does repository keys seal Fit b held taken taken2 before after' NoMemory
+      nothing_said : {Passed : List ℕ → Type 0} {taken2 : Option (List ℕ)} → Does does repository seal t.what None after after' → taken2 ≡ taken1 → Session does repository keys seal Fit Passed b held taken taken2 before after' NoMemory
       nothing_said {taken2} d same = ends_beside d.calls d.made (silent t d.calls later taken2 s.opened next d.answers (said_line t.waited taken2 (same ∙ took_line)))
 
       module _ (answer : Response) (d : Does does repository seal t.what (Some answer) after after') where
@@ -312,10 +315,10 @@ module _ {K : Type 0} {does : K → List Call → K → Type 0} {repository : Li
         takes_both taken2 took = took ∙ ap (λ o. onto o (reply_of answer (is_full answer || t.last))) took_line ∙ onto_twice taken' (line_text t.waited) (reply_of answer (is_full answer || t.last))
 
         -- the reply was said
-        pub whole_comes : (end : Option SessionEnd) (taken2 : Option (List ℕ)) → end ≡ end_after answer t.last → IsLegible answer
-            → taken2 ≡ onto taken1 (reply_of answer (is_some end)) → ComesOut does repository keys seal Fit b held taken before (count + 1) taken2 after' end
+        pub whole_comes : (Passed : List ℕ → Type 0) (end : Option SessionEnd) (taken2 : Option (List ℕ)) → end ≡ end_after answer t.last → IsLegible answer
+            → taken2 ≡ onto taken1 (reply_of answer (is_some end)) → ComesOut does repository keys seal Fit Passed b held taken before (count + 1) taken2 after' end
         unfolding one last_one
-        whole_comes None taken2 end_is legible took =
+        whole_comes Passed None taken2 end_is legible took =
             let goes = goes_of (is_full answer) t.last end_is in
             let count = turns_count s.exchanges in
             let at : length s.exchanges + 1 ≡ 0 + length (turns s.exchanges) + 1 = omega (arith, count) in
@@ -336,15 +339,15 @@ module _ {K : Type 0} {does : K → List Call → K → Type 0} {repository : Li
               made = made_one one d.made;
               reads = grows s.exchanges one s.reads;
             }
-        whole_comes (Some end) taken2 end_is legible took =
+        whole_comes Passed (Some end) taken2 end_is legible took =
             let closes : is_some (end_after answer t.last) ≡ is_last one = sym (last_of (is_full answer) t.last) in
             let said = takes_both taken2 (took ∙ ap (λ l. onto taken1 (reply_of answer l)) (ap is_some end_is ∙ closes)) in
             elim (end_of (is_full answer) t.last end end_is) [
               | inl is ↦
-                  subst (λ (x : SessionEnd). Session does repository keys seal Fit b held taken taken2 before after' x) (sym is.1)
+                  subst (λ (x : SessionEnd). Session does repository keys seal Fit Passed b held taken taken2 before after' x) (sym is.1)
                   (ends_with_one one d.answers legible d.made (full (last_one t next one refl) taken2 is.0 (said_one one taken2 said)))
               | inr is ↦
-                  subst (λ (x : SessionEnd). Session does repository keys seal Fit b held taken taken2 before after' x) (sym is.2)
+                  subst (λ (x : SessionEnd). Session does repository keys seal Fit Passed b held taken taken2 before after' x) (sym is.2)
                   (ends_with_one one d.answers legible d.made
                   (by_bytes false Closed taken2
                   (record {
@@ -360,22 +363,23 @@ module _ {K : Type 0} {does : K → List Call → K → Type 0} {repository : Li
             ]
 
         -- a front of the reply was said
-        front_comes : (taken2 : Option (List ℕ)) → IsLegible answer → Wrote taken1 taken2 (reply_of answer (is_some (end_after answer t.last))) → Session does repository keys seal Fit b held taken taken2 before after' WriteFault
+        front_comes : {Passed : List ℕ → Type 0} (taken2 : Option (List ℕ)) → IsLegible answer → Wrote taken1 taken2 (reply_of answer (is_some (end_after answer t.last))) → Passed (sayings s.exchanges ++ line_text t.waited)
+            → Session does repository keys seal Fit Passed b held taken taken2 before after' WriteFault
         unfolding one
-        front_comes taken2 legible took =
+        front_comes taken2 legible took passed =
             let closes : is_some (end_after answer t.last) ≡ is_last one = sym (last_of (is_full answer) t.last) in
             let took_reply = subst (λ (l : Bool). Wrote taken1 taken2 (reply_of answer l)) closes took in
             ends_beside d.calls d.made
             (broken one later taken2 s.opened (next_request next) d.answers legible
-            (subst (λ (o : Option (List ℕ)). Wrote o taken2 (reply_of answer (is_last one))) (said_line t.waited taken1 took_line) took_reply))
+            (subst (λ (o : Option (List ℕ)). Wrote o taken2 (reply_of answer (is_last one))) (said_line t.waited taken1 took_line) took_reply) passed)
 
       -- what comes of the request
-      pub comes : {end : Option SessionEnd} {taken2 : Option (List ℕ)} → Handles does repository seal t.what t.last taken1 taken2 after after' end
-          → ComesOut does repository keys seal Fit b held taken before (count + 1) taken2 after' end
-      comes {taken2 = taken2} (answered answer _ d (whole end end_is legible took)) = whole_comes answer d end taken2 end_is legible took
-      comes {taken2 = taken2} (answered answer _ d (front legible took)) = front_comes answer d taken2 legible took
-      comes (answered answer _ d (nothing same)) = nothing_said (record { calls = d.calls; answers = unsaid answer d.answers; made = d.made }) same
-      comes (unanswered d same) = nothing_said d same
+      pub comes : (Passed : List ℕ → Type 0) {end : Option SessionEnd} {taken2 : Option (List ℕ)} → (end ≡ Some WriteFault → Passed (sayings s.exchanges ++ line_text t.waited)) → Handles does repository seal t.what t.last taken1 taken2 after after' end
+          → ComesOut does repository keys seal Fit Passed b held taken before (count + 1) taken2 after' end
+      comes Passed {taken2 = taken2} passed (answered answer _ d (whole end end_is legible took)) = whole_comes answer d Passed end taken2 end_is legible took
+      comes Passed {taken2 = taken2} passed (answered answer _ d (front legible took)) = front_comes answer d taken2 legible took (passed refl)
+      comes Passed passed (answered answer _ d (nothing same)) = nothing_said (record { calls = d.calls; answers = unsaid answer d.answers; made = d.made }) same
+      comes Passed passed (unanswered d same) = nothing_said d same
 
 -- ---- when the source is read
 
@@ -434,23 +438,28 @@ module _ {R : Type 0} (left : R → Option (List ℕ)) (looks : R → Look → T
 
 module _ {K : Type 0} {does : K → List Call → K → Type 0} {repository name : List ℕ} {keys : List Key} {seal : List ℕ → List ℕ} {Fit : List Exchange → Type 0} {b later held : List ℕ} {taken : Option (List ℕ)} {before : Standing K} {count : ℕ}
     {taken' : Option (List ℕ)} {after : Standing K} (none : HasNone does) (follows : HasMore does) (grows : Grows Fit) (s : SoFar does repository keys seal Fit b later taken before count taken' after) (named : name ≡ repository) where
-  pub clean_end : {taken1 : Option (List ℕ)} → Gets name keys later held taken' taken1 (Ok None) → Session does repository keys seal Fit b held taken taken1 before after Clean
+  pub clean_end : {Passed : List ℕ → Type 0} {taken1 : Option (List ℕ)} → Gets name keys later held taken' taken1 (Ok None) → Session does repository keys seal Fit Passed b held taken taken1 before after Clean
   clean_end (read_end is still same) = ends_clean follows grows s is still same
 
-  pub other_end : {taken1 taken2 : Option (List ℕ)} {why : Unread} {end : SessionEnd} → Gets name keys later held taken' taken1 (Err why)
-      → EndsBy why taken1 taken2 end → Session does repository keys seal Fit b held taken taken2 before after end
-  other_end {taken1} {taken2} {why} gets by = ends_by follows grows s none (subst (λ (n : List ℕ). Gets n keys later held taken' taken1 (Err why)) named gets) by
+  pub other_end : {passed passed1 passed2 taken1 taken2 : Option (List ℕ)} {why : Unread} {end : SessionEnd} → Gets name keys later held taken' taken1 (Err why)
+      → (why ≡ Unsaid → passed ≡ taken → passed1 ≡ taken') → (why ≢ Unsaid → passed ≡ taken → passed1 ≡ taken1) → (end ≡ WriteFault → passed2 ≡ passed1)
+      → EndsBy why taken1 taken2 end → Session does repository keys seal Fit (PassedOn taken passed passed2) b held taken taken2 before after end
+  other_end {taken1 = taken1} {why = why} gets line reply stays by =
+      ends_by follows grows s none (subst (λ (n : List ℕ). Gets n keys later held taken' taken1 (Err why)) named gets)
+      (λ is was. stays (by_unsaid by is) ∙ line is was ∙ s.said)
+      (λ other broke unlined was. stays broke ∙ reply other was ∙ said_line follows grows s false taken1 (unlined ∙ onto_none taken')) by
 
-  pub answered_one : {desk_name : List ℕ} {taken1 taken2 : Option (List ℕ)} {asked : Asked} {last : Bool} {after' : Standing K} {end : Option SessionEnd} → desk_name ≡ repository
-      → Gets name keys later held taken' taken1 (Ok (Some asked)) → last ≡ ends asked.last (count + 1) → Handles does desk_name seal asked.turn last taken1 taken2 after after' end
-      → ComesOut does repository keys seal Fit b held taken before (count + 1) taken2 after' end
-  answered_one {taken1 = taken1} {taken2 = taken2} {asked = asked} {last = last} {after' = after'} {end = end} desk gets last_is handles =
+  pub answered_one : {desk_name : List ℕ} {passed passed1 passed2 taken1 taken2 : Option (List ℕ)} {asked : Asked} {last : Bool} {after' : Standing K} {end : Option SessionEnd} → desk_name ≡ repository
+      → Gets name keys later held taken' taken1 (Ok (Some asked)) → last ≡ ends asked.last (count + 1)
+      → (passed ≡ taken → passed1 ≡ taken1) → (end ≡ Some WriteFault → passed2 ≡ passed1) → Handles does desk_name seal asked.turn last taken1 taken2 after after' end
+      → ComesOut does repository keys seal Fit (PassedOn taken passed passed2) b held taken before (count + 1) taken2 after' end
+  answered_one {passed = passed} {passed2 = passed2} {taken1 = taken1} {taken2 = taken2} {asked = asked} {last = last} {after' = after'} {end = end} desk gets last_is reply stays handles =
       one_of (subst (λ (n : List ℕ). Gets n keys later held taken' taken1 (Ok (Some asked))) named gets)
       (subst (λ (n : List ℕ). Handles does n seal asked.turn last taken1 taken2 after after' end) desk handles)
     where
       one_of : Gets repository keys later held taken' taken1 (Ok (Some asked)) → Handles does repository seal asked.turn last taken1 taken2 after after' end
-          → ComesOut does repository keys seal Fit b held taken before (count + 1) taken2 after' end
+          → ComesOut does repository keys seal Fit (PassedOn taken passed passed2) b held taken before (count + 1) taken2 after' end
       one_of (read_whole request _ is wants asks took) done =
           comes follows grows s (record { what = asked.turn; waited = waits request.head; last = last })
           (record { request = request; is = is; wants = wants; waited = refl; last = last_is ∙ ap (λ l. ends l (count + 1)) asks ∙ ap (λ n. ends request.head.last (n + 1)) (sym s.number) })
-          took done
+          took (PassedOn taken passed passed2) (λ broke was. stays broke ∙ reply was ∙ said_line follows grows s (waits request.head) taken1 took) done

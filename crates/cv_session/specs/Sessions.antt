@@ -46,6 +46,10 @@ sayings = flat_map saying
 abbrev pub IsWritten : Exchange → Type 0
 IsWritten e = IsLegible e.answer
 
+-- of what was said the sink passed on this by flushes, and no more, if all that it had taken was passed on at first
+abbrev pub PassedOn : (taken passed passed' : Option (List ℕ)) → List ℕ → Type 0
+PassedOn taken passed passed' said = passed ≡ taken → passed' ≡ onto taken said
+
 module _ (repository : List ℕ) (keys : List Key) (seal : List ℕ → List ℕ) where
   -- the answer is one to what was asked, by what the desk answered
   abbrev pub IsAnswered : Exchange → Type 0
@@ -83,26 +87,28 @@ module _ (repository : List ℕ) (keys : List Key) (seal : List ℕ → List ℕ
     Holds es held NoMemory = Unit {0}
 
     -- how a session ended over the bytes read, of which these are still held: what was said whole in these exchanges, what the desk
-    -- was asked besides, and what the sink took
-    pub data Ended (held : List ℕ) (taken : Option (List ℕ)) (es : List Exchange) : List Call → Option (List ℕ) → SessionEnd → Type 0 where
+    -- was asked besides, and what the sink took; the sink passed on what is so
+    pub data Ended (Passed : List ℕ → Type 0) (held : List ℕ) (taken : Option (List ℕ)) (es : List Exchange) : List Call → Option (List ℕ) → SessionEnd → Type 0 where
       -- by the bytes
       by_bytes : (line : Bool) (end : SessionEnd) (taken' : Option (List ℕ)) → IsAsked repository keys b (turns es) line end → Holds es held end → AllByRecursion (λ e. is_full e.answer ≡ false) es
-          → taken' ≡ onto taken (sayings es ++ line_text line) → Ended held taken es [] taken' end
+          → taken' ≡ onto taken (sayings es ++ line_text line) → Ended Passed held taken es [] taken' end
       -- by the last reply, that the journal is full
-      full : (last : IsLast es held) (taken' : Option (List ℕ)) → is_full last.last_.answer ≡ true → taken' ≡ onto taken (sayings es) → Ended held taken es [] taken' JournalFull
+      full : (last : IsLast es held) (taken' : Option (List ℕ)) → is_full last.last_.answer ≡ true → taken' ≡ onto taken (sayings es) → Ended Passed held taken es [] taken' JournalFull
       -- the source failed where more bytes were waited for: all that was whole was answered, and nothing then
-      unread : (rest : List ℕ) (line : Bool) (taken' : Option (List ℕ)) → Opened es rest → Awaits rest line → taken' ≡ onto taken (sayings es ++ line_text line) → Ended held taken es [] taken' ReadFault
-      -- the sink failed in a reply as the program writes one, or behind it: all before it was said, the line that asks for the body too,
-      -- and no further turn was taken
+      unread : (rest : List ℕ) (line : Bool) (taken' : Option (List ℕ)) → Opened es rest → Awaits rest line → taken' ≡ onto taken (sayings es ++ line_text line) → Ended Passed held taken es [] taken' ReadFault
+      -- the sink failed in a reply as the program writes one, or in its flush: all before it was said and passed on, the line that asks
+      -- for the body too, and no further turn was taken
       broken : (e : Exchange) (rest : List ℕ) (taken' : Option (List ℕ)) → Opened es rest → Comes (length es) rest e.asked held → IsAnswered e → IsWritten e
-          → Wrote (onto taken (sayings es ++ line_text e.asked.waited)) taken' (reply_of e.answer (is_last e)) → Ended held taken es e.calls taken' WriteFault
-      -- the sink failed in the line that asks for a body
-      broken_line : (rest : List ℕ) (taken' : Option (List ℕ)) → Opened es rest → Reached rest true → Wrote (onto taken (sayings es)) taken' continue_line → Ended held taken es [] taken' WriteFault
+          → Wrote (onto taken (sayings es ++ line_text e.asked.waited)) taken' (reply_of e.answer (is_last e))
+          → Passed (sayings es ++ line_text e.asked.waited) → Ended Passed held taken es e.calls taken' WriteFault
+      -- the sink failed in the line that asks for a body, or in its flush: all before it was said and passed on
+      broken_line : (rest : List ℕ) (taken' : Option (List ℕ)) → Opened es rest → Reached rest true → Wrote (onto taken (sayings es)) taken' continue_line → Passed (sayings es)
+          → Ended Passed held taken es [] taken' WriteFault
       -- memory was wanted where a request was read
-      forgotten : (rest : List ℕ) (line : Bool) (taken' : Option (List ℕ)) → Opened es rest → Reached rest line → taken' ≡ onto taken (sayings es ++ line_text line) → Ended held taken es [] taken' NoMemory
+      forgotten : (rest : List ℕ) (line : Bool) (taken' : Option (List ℕ)) → Opened es rest → Reached rest line → taken' ≡ onto taken (sayings es ++ line_text line) → Ended Passed held taken es [] taken' NoMemory
       -- memory was wanted for an answer or its reply
       silent : (t : Turned) (calls : List Call) (rest : List ℕ) (taken' : Option (List ℕ)) → Opened es rest → IsNext repository keys (length es + 1) rest t held → Answers repository seal t.what calls None
-          → taken' ≡ onto taken (sayings es ++ line_text t.waited) → Ended held taken es calls taken' NoMemory
+          → taken' ≡ onto taken (sayings es ++ line_text t.waited) → Ended Passed held taken es calls taken' NoMemory
 
   -- the bytes b are whole requests of the first exchanges and no whole one more, and all that was said for them was passed on
   pub record IsUpToDate (taken : Option (List ℕ)) (es : List Exchange) (b : List ℕ) (passed : Option (List ℕ)) : Type 0 where
@@ -120,13 +126,13 @@ module _ (repository : List ℕ) (keys : List Key) (seal : List ℕ → List ℕ
   ReadsUpToDate left looks wire wire' taken passed es = passed ≡ taken → Looks left looks wire wire' (IsUpToDate taken es)
 
 -- A session over the bytes b that were read, of which these are still held: what they ask was said, with the answers of the desk,
--- and the reads of the source fit the exchanges.
-pub record Session {K : Type 0} (does : K → List Call → K → Type 0) (repository : List ℕ) (keys : List Key) (seal : List ℕ → List ℕ) (Fit : List Exchange → Type 0) (b held : List ℕ) (taken taken' : Option (List ℕ))
+-- the reads of the source fit the exchanges, and what the sink passed on is so.
+pub record Session {K : Type 0} (does : K → List Call → K → Type 0) (repository : List ℕ) (keys : List Key) (seal : List ℕ → List ℕ) (Fit : List Exchange → Type 0) (Passed : List ℕ → Type 0) (b held : List ℕ) (taken taken' : Option (List ℕ))
     (before after : Standing K) (end : SessionEnd) : Type 0 where
   pub exchanges : List Exchange
   pub answered : AllByRecursion (IsAnswered repository keys seal) exchanges
   pub legible : AllByRecursion IsWritten exchanges
   pub others : List Call
-  pub ended : Ended repository keys seal b held taken exchanges others taken' end
+  pub ended : Ended repository keys seal b Passed held taken exchanges others taken' end
   pub made : Made does before (calls_of exchanges ++ others) after
   pub reads : Fit exchanges

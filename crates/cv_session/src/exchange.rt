@@ -45,6 +45,7 @@ fn send<W: Sink>(alloc: Global, sink: &mut W, answer: Response, last: bool) -> O
     requires { is_writable answer ≡ true }
     ensures sends { Sends answer last (W.taken sink.old) (W.taken sink.new) result }
     ensures flushed { result ≢ Some WriteFault → W.passed sink.old ≡ W.taken sink.old → W.passed sink.new ≡ W.taken sink.new }
+    ensures held { result ≡ Some WriteFault → W.passed sink.new ≡ W.passed sink.old }
     ensures no_write_failed { result ≢ Some WriteFault → W.faults sink.new ≡ W.faults sink.old }
     ensures cause { HasCause (W.faults sink.old) (W.faults sink.new) (result ≡ Some WriteFault) }
 {
@@ -89,6 +90,7 @@ pub(crate) fn answer_turn<K: Desk, S: Signer, C: Clock, H: Hold, W: Sink>(
     ensures named { K.named desk.new ≡ K.named desk.old }
     ensures later { K.faults desk.old ≤ K.faults desk.new }
     ensures flushed { result ≢ Some WriteFault → W.passed sink.old ≡ W.taken sink.old → W.passed sink.new ≡ W.taken sink.new }
+    ensures held { result ≡ Some WriteFault → W.passed sink.new ≡ W.passed sink.old }
     ensures no_write_failed { result ≢ Some WriteFault → W.faults sink.new ≡ W.faults sink.old }
     ensures cause { HasCause (W.faults sink.old) (W.faults sink.new) (result ≡ Some WriteFault) }
 {

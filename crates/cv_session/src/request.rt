@@ -91,6 +91,7 @@ fn say_line<W: Sink>(sink: &mut W, head: &RequestHead) -> Result<(), Failed>
     ensures part { Wrote (W.taken sink.old) (W.taken sink.new) (line_text (waits head.now)) }
     ensures waiting { OnErr result (waits head.now ≡ true) }
     ensures flushed { OnOk result (W.passed sink.old ≡ W.taken sink.old → W.passed sink.new ≡ W.taken sink.new) }
+    ensures held { OnErr result (W.passed sink.new ≡ W.passed sink.old) }
     ensures no_write_failed { OnOk result (W.faults sink.new ≡ W.faults sink.old) }
     ensures cause { HasCause (W.faults sink.old) (W.faults sink.new) (IsErr result) }
 {
@@ -140,6 +141,7 @@ fn read_asked<R: Source<Beside = W> + Drop, W: Sink>(
     ensures no_read_failed { result ≢ Err (Fault ReadFault) → R.faults wire.new.source ≡ R.faults wire.old.source }
     ensures reads { HasCause (R.faults wire.old.source) (R.faults wire.new.source) (result ≡ Err (Fault ReadFault)) }
     ensures flushed { result ≢ Err Unsaid → W.passed sink.old ≡ W.taken sink.old → W.passed sink.new ≡ W.taken sink.new }
+    ensures held { result ≡ Err Unsaid → W.passed sink.new ≡ W.passed sink.old }
     ensures no_write_failed { result ≢ Err Unsaid → W.faults sink.new ≡ W.faults sink.old }
     ensures writes { HasCause (W.faults sink.old) (W.faults sink.new) (result ≡ Err Unsaid) }
     ensures looks { W.passed sink.old ≡ W.taken sink.old → Looks R.left R.looks wire.old wire.new (IsAskingBehind head.now (W.taken sink.old)) }
@@ -175,6 +177,7 @@ pub(crate) fn next_asked<R: Source<Beside = W> + Drop, W: Sink>(
     ensures no_read_failed { result ≢ Err (Fault ReadFault) → R.faults wire.new.source ≡ R.faults wire.old.source }
     ensures reads { HasCause (R.faults wire.old.source) (R.faults wire.new.source) (result ≡ Err (Fault ReadFault)) }
     ensures flushed { result ≢ Err Unsaid → W.passed sink.old ≡ W.taken sink.old → W.passed sink.new ≡ W.taken sink.new }
+    ensures held { result ≡ Err Unsaid → W.passed sink.new ≡ W.passed sink.old }
     ensures no_write_failed { result ≢ Err Unsaid → W.faults sink.new ≡ W.faults sink.old }
     ensures writes { HasCause (W.faults sink.old) (W.faults sink.new) (result ≡ Err Unsaid) }
     ensures looks { W.passed sink.old ≡ W.taken sink.old → Looks R.left R.looks wire.old wire.new (IsAsking (W.taken sink.old)) }

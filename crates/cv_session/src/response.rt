@@ -1,5 +1,5 @@
 //! Answers, and their replies.
-ghost use Rattle.std.specs.Prelude.{◌≡◌, ◌≢◌, ◌<◌, ◌^◌, length, Err, OnOk, true};
+ghost use Rattle.std.specs.Prelude.{◌≡◌, ◌≢◌, ◌<◌, ◌^◌, length, Err, OnOk, OnErr, true};
 ghost use Rattle.cv_base.specs.Counts.{HasCause};
 ghost use Rattle.cv_ports.specs.Streams.{onto, Wrote};
 ghost use Rattle.cv_http.specs.Replies.{reply};
@@ -47,6 +47,7 @@ fn write_message<W: Sink>(
     ensures part { Wrote (W.taken sink.old) (W.taken sink.new) (message_reply message.now last) }
     ensures nothing { result ≡ Err NoMemory → W.taken sink.new ≡ W.taken sink.old }
     ensures flushed { result ≢ Err WriteFault → W.passed sink.old ≡ W.taken sink.old → W.passed sink.new ≡ W.taken sink.new }
+    ensures held { OnErr result (W.passed sink.new ≡ W.passed sink.old) }
     ensures no_write_failed { result ≢ Err WriteFault → W.faults sink.new ≡ W.faults sink.old }
     ensures cause { HasCause (W.faults sink.old) (W.faults sink.new) (result ≡ Err WriteFault) }
 {
@@ -67,6 +68,7 @@ fn write_code<W: Sink>(alloc: Global, sink: &mut W, code: Code, last: bool) -> R
     ensures part { Wrote (W.taken sink.old) (W.taken sink.new) (code_reply code last) }
     ensures nothing { result ≡ Err NoMemory → W.taken sink.new ≡ W.taken sink.old }
     ensures flushed { result ≢ Err WriteFault → W.passed sink.old ≡ W.taken sink.old → W.passed sink.new ≡ W.taken sink.new }
+    ensures held { OnErr result (W.passed sink.new ≡ W.passed sink.old) }
     ensures no_write_failed { result ≢ Err WriteFault → W.faults sink.new ≡ W.faults sink.old }
     ensures cause { HasCause (W.faults sink.old) (W.faults sink.new) (result ≡ Err WriteFault) }
 {
@@ -93,6 +95,7 @@ pub(crate) fn write_answer<W: Sink>(
     ensures part { Wrote (W.taken sink.old) (W.taken sink.new) (reply_of answer last) }
     ensures nothing { result ≡ Err NoMemory → W.taken sink.new ≡ W.taken sink.old }
     ensures flushed { result ≢ Err WriteFault → W.passed sink.old ≡ W.taken sink.old → W.passed sink.new ≡ W.taken sink.new }
+    ensures held { OnErr result (W.passed sink.new ≡ W.passed sink.old) }
     ensures no_write_failed { result ≢ Err WriteFault → W.faults sink.new ≡ W.faults sink.old }
     ensures cause { HasCause (W.faults sink.old) (W.faults sink.new) (result ≡ Err WriteFault) }
 {

@@ -5,7 +5,7 @@ ghost use Rattle.cv_base.specs.Told.{WhereTold};
 ghost use Rattle.cv_http.specs.Wires.{Draws};
 ghost use Rattle.cv_http.specs.declared.fault.HttpFault.TheVariants.{Short};
 ghost use Rattle.cv_session.specs.ExchangesInner.{EndsBy};
-ghost use Rattle.cv_session.specs.Sessions.{Session, ReadsUpToDate};
+ghost use Rattle.cv_session.specs.Sessions.{Session, ReadsUpToDate, PassedOn};
 ghost use Rattle.cv_session.specs.Standing.{standing};
 ghost use Rattle.cv_session.specs.declared.request.Unread.TheVariants.{Fault, Unsaid};
 ghost use Rattle.cv_session.specs.declared.session_end.SessionEnd.TheVariants.{Clean, Bad, ReadFault, WriteFault};
@@ -25,6 +25,7 @@ use std::alloc::Global;
 fn refuse_fault<W: Sink>(alloc: Global, sink: &mut W, fault: HttpFault) -> SessionEnd
     ensures ends { EndsBy (Fault fault) (W.taken sink.old) (W.taken sink.new) result }
     ensures flushed { result ≢ WriteFault → W.passed sink.old ≡ W.taken sink.old → W.passed sink.new ≡ W.taken sink.new }
+    ensures held { result ≡ WriteFault → W.passed sink.new ≡ W.passed sink.old }
     ensures no_write_failed { result ≢ WriteFault → W.faults sink.new ≡ W.faults sink.old }
     ensures cause { HasCause (W.faults sink.old) (W.faults sink.new) (result ≡ WriteFault) }
 {
@@ -46,6 +47,7 @@ fn refuse_fault<W: Sink>(alloc: Global, sink: &mut W, fault: HttpFault) -> Sessi
 fn refuse<W: Sink>(alloc: Global, sink: &mut W, why: Unread) -> SessionEnd
     ensures ends { EndsBy why (W.taken sink.old) (W.taken sink.new) result }
     ensures flushed { result ≢ WriteFault → W.passed sink.old ≡ W.taken sink.old → W.passed sink.new ≡ W.taken sink.new }
+    ensures held { result ≡ WriteFault → W.passed sink.new ≡ W.passed sink.old }
     ensures no_write_failed { result ≢ WriteFault → W.faults sink.new ≡ W.faults sink.old }
     ensures later { W.faults sink.old ≤ W.faults sink.new }
     ensures cause { why ≢ Unsaid → HasCause (W.faults sink.old) (W.faults sink.new) (result ≡ WriteFault) }
@@ -57,7 +59,7 @@ fn refuse<W: Sink>(alloc: Global, sink: &mut W, why: Unread) -> SessionEnd
 }
 
 /// Answers the requests of a connection over a desk, one after another, until the input ends, a request asks for the end, is
-/// refused or is the last that a connection may have, the gate's journal is full, or a stream fails.
+/// refused or is the last that a connection may have, the gate's journal is full, a stream fails, or memory is wanted.
 ///
 /// It is held where a payload was read and the desk isn't asked to store it yet, and where the reply to a request for a lease
 /// was written.
@@ -74,10 +76,11 @@ pub fn session<K: Desk, S: Signer, C: Clock, H: Hold, R: Source<Beside = W> + Dr
     ensures session { Draws R.left R.given wire.old wire.new (λ b.
         Session K.does (K.named desk.old) keys.now (S.seal_of signer.now)
         (ReadsUpToDate (K.named desk.old) keys.now (S.seal_of signer.now) R.left R.looks wire.old wire.new (W.taken sink.old) (W.passed sink.old))
+        (PassedOn (W.taken sink.old) (W.passed sink.old) (W.passed sink.new))
         b wire.new.held (W.taken sink.old) (W.taken sink.new)
         (standing desk.old (C.moments clock.old) (K.faults desk.old)) (standing desk.new (C.moments clock.new) (K.faults desk.new)) result) }
 
-    // Where the sink didn't fail, all that was taken is passed on: also where the source failed, at whichever read.
+    // Where the sink didn't fail, all that was taken is passed on, if it was so at first: also where the source failed, at whichever read.
     ensures flushed { result ≢ WriteFault → W.passed sink.old ≡ W.taken sink.old → W.passed sink.new ≡ W.taken sink.new }
     ensures nothing_left { result ≡ Clean → WhereTold (R.left wire.new.source) (λ left. left ≡ []) }
     ensures cut { result ≡ Bad Short → WhereTold (R.left wire.new.source) (λ left. left ≡ []) }

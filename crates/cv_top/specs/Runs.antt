@@ -26,7 +26,7 @@ use Rattle.cv_desk.specs.OneDesk.{OneDeskView, Stands, DoesEach, DoesCalls, firs
 use Rattle.cv_resolver.specs.declared.question.Question.{Question}
 use Rattle.cv_client.specs.Exchange.{Links}
 use Rattle.cv_client.specs.declared.url.Url.{Url}
-use Rattle.cv_session.specs.Sessions.{Session, ReadsUpToDate, calls_of}
+use Rattle.cv_session.specs.Sessions.{Session, ReadsUpToDate, PassedOn, calls_of}
 use Rattle.cv_session.specs.Standing.{Gives, standing}
 use Rattle.cv_session.specs.declared.session_end.SessionEnd.{SessionEnd}
 use Rattle.cv_session.specs.declared.session_end.SessionEnd.TheVariants.{Clean, Bad}
@@ -131,6 +131,7 @@ module _ {V : Type 0} (disk : V → Option Disk) (count : V → ℕ) (left : V �
       pub held : List ℕ
       pub session : Session (DoesCalls disk count left is_seal_by) name keys (hmac_sha1 seal)
           (ReadsUpToDate name keys (hmac_sha1 seal) rest looks (record { source = input; held = [] }) (record { source = input'; held = held }) (taken output) (passed output))
+          (PassedOn (taken output) (passed output) (passed output'))
           read held (taken output) (taken output')
           (standing desk (moments clock) (faults desk.gate.state.line.vault)) (standing desk' (moments clock') (faults desk'.gate.state.line.vault)) end
       -- nothing is left where it ended by the end of the input

@@ -12,7 +12,7 @@ pub returns-in-ReadFault-clause-ends : goal.returns-in-ReadFault-clause-ends
 returns-in-ReadFault-clause-ends g c = not_read (ap (λ f. Fault f) c.in-ReadFault.is) refl
 
 pub returns-in_default-fault : goal.returns-in_default-fault
-returns-in_default-fault g c = record { ends = no_memory c.args.fault refl c.in_default-fault.not-ReadFault refl; flushed = λ written was. was; no_write_failed = λ not. refl; cause = record { later = omega arith; failed = λ is. cc } }
+returns-in_default-fault g c = record { ends = no_memory c.args.fault refl c.in_default-fault.not-ReadFault refl; flushed = λ written was. was; held = λ is. refl; no_write_failed = λ not. refl; cause = record { later = omega arith; failed = λ is. cc } }
 
 pub returns-in-Ok-clause-ends : goal.returns-in-Ok-clause-ends
 returns-in-Ok-clause-ends g c = refused c.args.fault c.in-Some.code refl (sym c.fault_code.ensures ∙ c.in-Some.is) c.in-Ok.ensures.whole

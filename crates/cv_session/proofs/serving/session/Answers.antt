@@ -28,12 +28,16 @@ returns-in-Ok-None-clause-session g c =
 pub returns-in-Err-clause-session : goal.returns-in-Err-clause-session
 returns-in-Err-clause-session g c =
     draws_then g.R.Source.left g.R.Source.given _ _ _ _ _ _ (up_to_date_on g.R.Source.left g.R.Source.looks c.args.wire.now g.R.Source.given c.requests.wire c.next_asked.new.wire c.requests.invariant.so_far c.requests.invariant.flushed c.next_asked.ensures.looks) c.in-Err.ensures.gets (λ b more s gets.
-    other_end g.met.K.Desk.does_none g.met.K.Desk.does_more (up_to_date_grows g.R.Source.left g.R.Source.looks c.args.wire.now c.next_asked.new.wire) (so_more more s) (c.name.ensures ∙ c.requests.invariant.named) gets c.refuse.ensures.ends)
+    other_end g.met.K.Desk.does_none g.met.K.Desk.does_more (up_to_date_grows g.R.Source.left g.R.Source.looks c.args.wire.now c.next_asked.new.wire) (so_more more s) (c.name.ensures ∙ c.requests.invariant.named) gets
+    (λ is was. c.in-Err.ensures.held (ap (λ why. Err why) is) ∙ c.requests.invariant.flushed was)
+    (λ other was. c.in-Err.ensures.flushed (λ e. let same : c.in-Err.why ≡ Unsaid = cc in other same) (c.requests.invariant.flushed was))
+    c.refuse.ensures.held c.refuse.ensures.ends)
 
 pub returns-in-Some-clause-session : goal.returns-in-Some-clause-session
 returns-in-Some-clause-session g c =
     draws_then g.R.Source.left g.R.Source.given _ _ _ _ _ _ (up_to_date_on g.R.Source.left g.R.Source.looks c.args.wire.now g.R.Source.given c.requests.wire c.next_asked.new.wire c.requests.invariant.so_far c.requests.invariant.flushed c.next_asked.ensures.looks) (rw c.in-Ok-Some.field-0-is at c.in-Ok-Some.ensures.gets) (λ b more s gets.
-    answered_one g.met.K.Desk.does_none g.met.K.Desk.does_more (up_to_date_grows g.R.Source.left g.R.Source.looks c.args.wire.now c.next_asked.new.wire) (so_more more s) (c.name.ensures ∙ c.requests.invariant.named) c.requests.invariant.named gets c.ends_with-last.ensures c.in-Some.ensures.handles)
+    answered_one g.met.K.Desk.does_none g.met.K.Desk.does_more (up_to_date_grows g.R.Source.left g.R.Source.looks c.args.wire.now c.next_asked.new.wire) (so_more more s) (c.name.ensures ∙ c.requests.invariant.named) c.requests.invariant.named gets c.ends_with-last.ensures
+    (λ was. c.in-Ok-Some.ensures.flushed (λ e. cc) (c.requests.invariant.flushed was)) c.in-Some.ensures.held c.in-Some.ensures.handles)
 
 pub returns-in-Some-clause-nothing_left : goal.returns-in-Some-clause-nothing_left
 returns-in-Some-clause-nothing_left g c = λ is. absurd (not_by_reading Clean refl c.in-Some.ensures.handles is)
@@ -50,7 +54,8 @@ returns-in-Some-clause-reads g c = record {
 pub requests-preserved : goal.requests-preserved
 requests-preserved g c = record {
   so_far = draws_then g.R.Source.left g.R.Source.given _ _ _ _ _ _ (up_to_date_on g.R.Source.left g.R.Source.looks c.args.wire.now g.R.Source.given c.requests.wire c.next_asked.new.wire c.requests.invariant.so_far c.requests.invariant.flushed c.next_asked.ensures.looks) (rw c.in-Ok-Some.field-0-is at c.in-Ok-Some.ensures.gets) (λ b more s gets.
-      answered_one g.met.K.Desk.does_none g.met.K.Desk.does_more (up_to_date_grows g.R.Source.left g.R.Source.looks c.args.wire.now c.next_asked.new.wire) (so_more more s) (c.name.ensures ∙ c.requests.invariant.named) c.requests.invariant.named gets c.ends_with-last.ensures c.in-None.ensures.handles);
+      answered_one g.met.K.Desk.does_none g.met.K.Desk.does_more (up_to_date_grows g.R.Source.left g.R.Source.looks c.args.wire.now c.next_asked.new.wire) (so_more more s) (c.name.ensures ∙ c.requests.invariant.named) c.requests.invariant.named gets c.ends_with-last.ensures
+      (λ was. c.in-Ok-Some.ensures.flushed (λ e. cc) (c.requests.invariant.flushed was)) c.in-None.ensures.held c.in-None.ensures.handles);
   below = let not = goes_below c.in-Ok-Some.asked.last (c.requests.count + 1) c.ends_with-last.ensures c.in-None.ensures.handles in omega (arith, not);
   named = c.in-None.ensures.named ∙ c.requests.invariant.named;
   flushed = λ was. c.in-None.ensures.flushed (λ e. cc) (c.in-Ok-Some.ensures.flushed (λ e. cc) (c.requests.invariant.flushed was));
