@@ -12,6 +12,7 @@ import json
 import re
 
 import cvkit_client
+import told_gateway
 import turns
 from cvkit_client import LEASES, PAYLOADS, REPOSITORY, authorization, digest_of, lease_message
 from vectors import in_line, settle_lines
@@ -208,7 +209,7 @@ def told_of(asked, said):
 def row(desk, piece, reading, writing, exchanges, end):
     """A line of the table, and what it prints, where all is answered."""
     asked, said = ("".join(part) for part in zip(*exchanges))
-    told = "".join(told_of(*exchange) for exchange in exchanges) if desk != "seat" else ""
+    told = "".join(told_of(*exchange) for exchange in exchanges)
     counts = told.count("store "), told.count("lease ")
     return line(desk, piece, reading, writing, asked, said, end, told, *counts)
 
@@ -327,25 +328,36 @@ def failing():
     said = granted("1-1")
     for call, taken in (1, ""), (3, said):
         yield line("grants", 100, 0, call, lease("/a"), taken, "WriteFault", "lease k1 on '/a';", 0, 0)
-    # a flush that fails where the next request is held whole: that isn't asked of the desk
+    # a flush that fails where the body or the next request is held whole: that isn't asked of the desk
+    yield line("grants", 1000, 0, 2, asked, LINE, "WriteFault", "", 0, 0)
     yield line("grants", 1000, 0, 3, lease("/a") + lease("/b"), said, "WriteFault", "lease k1 on '/a';", 0, 0)
 
 
 # ---- the table
 
-# The leases, and the ends of two, asked at a seat where no lease is live.
+# What is asked at a seat where no lease is live and none can be had, over a new repository: the leases, the ends of two, a lease,
+# a payload, a commit, and the manifest.
 AT_SEAT = [
     (cvkit_client.LIST.decode(), answer(data=[], status="ok")),
     (cvkit_client.end("1-1").decode(), refused("invalid_token")),
     (cvkit_client.end("1-2").decode(), refused("invalid_token")),
+    (lease("/a"), refused("no_memory")),
+    (payload(*FULL), refused("invalid_token")),
+    (commit("1-1"), refused("invalid_token")),
+    (head("GET", f"/cvmfs/{REPOSITORY}/.cvmfspublished", HOST), octets(told_gateway.Gateway().manifest)),
 ]
+
+
+def at_seat():
+    asked, said = zip(*AT_SEAT)
+    return line("seat", 100, 0, 0, "".join(asked), b"".join(one if isinstance(one, bytes) else one.encode() for one in said), CLEAN, "", 1, 1)
 
 
 def rows():
     for exchanges, end in SESSIONS:
         for piece in 1, 100:
             yield row("grants", piece, 0, 0, exchanges, end)
-    yield row("seat", 100, 0, 0, AT_SEAT, CLEAN)
+    yield at_seat()
     for request in turns.REQUESTS:
         yield turn_row(*request)
     yield from replied()

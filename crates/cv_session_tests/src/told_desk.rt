@@ -1,7 +1,7 @@
 //! A desk that tells what was asked of it, and replies by a word.
 //!
-//! By `grants` it grants and stores all that is asked, but commits nothing, and behind each of its entries stands one of another
-//! seat. By any other word it replies what `replies` says. With a store it tells how often sessions were held by then where a
+//! By `grants` it grants and stores all that is asked, but commits nothing, and numbers its entries as if one of another seat stood
+//! behind each. By any other word it replies what `replies` says. With a store it tells how often sessions were held by then where a
 //! payload was read.
 ghost use Rattle.std.specs.Prelude.{◌≡◌, ◌≤◌};
 ghost use Rattle.cv_base.specs.Counts.{Rose};
