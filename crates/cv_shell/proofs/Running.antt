@@ -14,7 +14,7 @@ use Rattle.cv_shell.specs.Shells.{Turn, printed, Answered, Runs, Ends, Shells, R
 use Rattle.cv_shell.specs.declared.lines.LineFault.{LineFault}
 use Rattle.cv_shell.specs.declared.lines.LineFault.TheVariants.{TooLong, ReadFault, NoMemory}
 use Rattle.cv_shell.specs.declared.shell_end.ShellEnd.{ShellEnd}
-use Rattle.cv_shell.specs.declared.shell_end.ShellEnd.TheVariants.{Ended}
+use Rattle.cv_shell.specs.declared.shell_end.ShellEnd.TheVariants.{Ended, OutputFailed}
 use Rattle.cv_shell.specs.declared.shell_end.ShellEnd.TheVariants as shell_end
 
 -- the next line, where more is read behind it
@@ -60,30 +60,32 @@ module _ {is_seal : List ℕ → List ℕ → Bool} {u : Url} {l : Links} {r : C
     one_more (Some e) lacks grows next answered = absurd (lacks e refl)
 
     -- the shell ends behind these turns
-    ends_so : {l' : Links} {r' : Client} {now' : Option (List ℕ)} {end : ShellEnd} → Ends is_seal u left' (b ++ more) l l' r r' taken now' so.turns end → Shells is_seal u Fit left' (b ++ more) l l' r r' taken now' end
-    ends_so ends = record { turns = so.turns; ends = ends; reads = so.reads }
+    ends_so : {passed passed' : Option (List ℕ)} {l' : Links} {r' : Client} {now' : Option (List ℕ)} {end : ShellEnd} → Ends is_seal u left' (b ++ more) l l' r r' taken now' so.turns end
+        → (end ≡ OutputFailed → passed ≡ taken → passed' ≡ onto taken (printed so.turns)) → Shells is_seal u Fit left' (b ++ more) l l' r r' taken now' passed passed' end
+    ends_so ends broke = record { turns = so.turns; ends = ends; reads = so.reads; broke = broke }
 
     -- one more ended the shell
-    pub one_last : {line later : List ℕ} {after : Links} {c' : Client} {now' : Option (List ℕ)} {end : ShellEnd} → IsNext left' (rest ++ more) line later
-        → Answered is_seal u line before after c c' now now' (Some end) → Shells is_seal u Fit left' (b ++ more) l after r c' taken now' end
-    one_last {line} {later} {after} {c'} {now'} {end} next answered =
+    pub one_last : {passed passed' : Option (List ℕ)} {line later : List ℕ} {after : Links} {c' : Client} {now' : Option (List ℕ)} {end : ShellEnd} → IsNext left' (rest ++ more) line later
+        → (end ≡ OutputFailed → passed ≡ taken → passed' ≡ now) → Answered is_seal u line before after c c' now now' (Some end) → Shells is_seal u Fit left' (b ++ more) l after r c' taken now' passed passed' end
+    one_last {line = line} {later = later} {after = after} {c' = c'} {now' = now'} {end = end} next broke answered =
         ends_so (by_line (rest ++ more) line later before c end (runs_more so.runs) next
         (subst (λ (o : Option (List ℕ)). Answered is_seal u line before after c c' o now' (Some end)) so.took answered))
+        (λ is was. broke is was ∙ so.took)
 
     -- the input has ended
-    pub none_more : (held : List ℕ) → LineRead left' (rest ++ more) held (Ok None) → Shells is_seal u Fit left' (b ++ more) l before r c taken now Ended
-    none_more held read = ends_so (ended (subst (λ (x : List ℕ). Runs is_seal u left' (b ++ more) l r so.turns x before c) read.0 (runs_more so.runs)) read.2 so.took)
+    pub none_more : {passed passed' : Option (List ℕ)} (held : List ℕ) → LineRead left' (rest ++ more) held (Ok None) → Shells is_seal u Fit left' (b ++ more) l before r c taken now passed passed' Ended
+    none_more held read = ends_so (ended (subst (λ (x : List ℕ). Runs is_seal u left' (b ++ more) l r so.turns x before c) read.0 (runs_more so.runs)) read.2 so.took) (λ is was. cc)
 
     -- no line was read
-    pub not_read : (held : List ℕ) (fault : LineFault) → LineRead left' (rest ++ more) held (Err fault) → Shells is_seal u Fit left' (b ++ more) l before r c taken now (end_of_fault fault)
-    not_read held TooLong read = ends_so (too_long (rest ++ more) (runs_more so.runs) read.0 so.took)
-    not_read held ReadFault read = ends_so (unread (rest ++ more) (runs_more so.runs) read.0 so.took)
-    not_read held NoMemory read = ends_so (no_memory (rest ++ more) (runs_more so.runs) so.took)
+    pub not_read : {passed passed' : Option (List ℕ)} (held : List ℕ) (fault : LineFault) → LineRead left' (rest ++ more) held (Err fault) → Shells is_seal u Fit left' (b ++ more) l before r c taken now passed passed' (end_of_fault fault)
+    not_read held TooLong read = ends_so (too_long (rest ++ more) (runs_more so.runs) read.0 so.took) (λ is was. cc)
+    not_read held ReadFault read = ends_so (unread (rest ++ more) (runs_more so.runs) read.0 so.took) (λ is was. cc)
+    not_read held NoMemory read = ends_so (no_memory (rest ++ more) (runs_more so.runs) so.took) (λ is was. cc)
 
 -- no other line is read
-pub tired : {is_seal : List ℕ → List ℕ → Bool} {u : Url} {Fit : List Turn → Type 0} {l : Links} {r : Client} {left : Option (List ℕ)} {b : List ℕ} {taken : Option (List ℕ)} {rest : List ℕ} {before : Links} {c : Client} {now : Option (List ℕ)}
-    → SoFar is_seal u Fit l r taken left b rest before c now → Shells is_seal u Fit left b l before r c taken now shell_end.NoMemory
-tired {rest = rest} so = record { turns = so.turns; ends = no_memory rest so.runs so.took; reads = so.reads }
+pub tired : {is_seal : List ℕ → List ℕ → Bool} {u : Url} {Fit : List Turn → Type 0} {l : Links} {r : Client} {left : Option (List ℕ)} {b : List ℕ} {taken passed passed' : Option (List ℕ)} {rest : List ℕ} {before : Links} {c : Client} {now : Option (List ℕ)}
+    → SoFar is_seal u Fit l r taken left b rest before c now → Shells is_seal u Fit left b l before r c taken now passed passed' shell_end.NoMemory
+tired {rest = rest} so = record { turns = so.turns; ends = no_memory rest so.runs so.took; reads = so.reads; broke = λ is was. cc }
 
 -- ---- when the source is read
 

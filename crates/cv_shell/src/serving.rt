@@ -1,5 +1,5 @@
 //! The shell over an input and an output.
-ghost use Rattle.std.specs.Prelude.{◌≡◌, ◌≢◌, Some, None, OnOk, IsErr};
+ghost use Rattle.std.specs.Prelude.{◌≡◌, ◌≢◌, Some, None, OnOk, OnErr, IsErr};
 ghost use Rattle.cv_base.specs.Counts.{HasCause};
 ghost use Rattle.cv_ports.specs.Streams.{onto, Wrote};
 ghost use Rattle.cv_http.specs.Wires.{Draws};
@@ -21,6 +21,7 @@ fn write_text<W: Sink>(output: &mut W, text: &[u8]) -> Result<(), Failed>
     ensures whole { OnOk result (W.taken output.new ≡ onto (W.taken output.old) text.now) }
     ensures part { Wrote (W.taken output.old) (W.taken output.new) text.now }
     ensures passed { OnOk result (W.passed output.new ≡ W.taken output.new) }
+    ensures held { OnErr result (W.passed output.new ≡ W.passed output.old) }
     ensures no_write_failed { OnOk result (W.faults output.new ≡ W.faults output.old) }
     ensures cause { HasCause (W.faults output.old) (W.faults output.new) (IsErr result) }
 {
@@ -41,6 +42,7 @@ fn serve_line<N: Dial, S: Signer, W: Sink>(
     ensures answered { Answered (S.is_seal signer.now) url.now line.now (N.came dial.old) (N.came dial.new) resolver.old resolver.new
         (W.taken output.old) (W.taken output.new) result }
     ensures flushed { result ≢ Some OutputFailed → W.passed output.old ≡ W.taken output.old → W.passed output.new ≡ W.taken output.new }
+    ensures held { result ≡ Some OutputFailed → W.passed output.new ≡ W.passed output.old }
     ensures no_write_failed { result ≢ Some OutputFailed → W.faults output.new ≡ W.faults output.old }
     ensures writes { HasCause (W.faults output.old) (W.faults output.new) (result ≡ Some OutputFailed) }
     ensures asks { AsksFirst N.came N.looks dial.old dial.new }
@@ -69,7 +71,8 @@ fn serve_lines<N: Dial, S: Signer, R: Source<Beside = W> + Drop, W: Sink>(
     ensures shells { Draws R.left R.given lines.old lines.new (λ b.
         Shells (S.is_seal signer.now) url.now
         (ReadsUpToDate (S.is_seal signer.now) url.now R.left R.looks lines.old lines.new (N.came dial.old) resolver.old (W.taken output.old) (W.passed output.old))
-        (R.left lines.new.source) b (N.came dial.old) (N.came dial.new) resolver.old resolver.new (W.taken output.old) (W.taken output.new) result) }
+        (R.left lines.new.source) b (N.came dial.old) (N.came dial.new) resolver.old resolver.new (W.taken output.old) (W.taken output.new)
+        (W.passed output.old) (W.passed output.new) result) }
     ensures flushed { result ≢ OutputFailed → W.passed output.old ≡ W.taken output.old → W.passed output.new ≡ W.taken output.new }
     ensures no_read_failed { result ≢ InputFailed → R.faults lines.new.source ≡ R.faults lines.old.source }
     ensures reads { HasCause (R.faults lines.old.source) (R.faults lines.new.source) (result ≡ InputFailed) }
@@ -110,9 +113,10 @@ pub fn shell<N: Dial, S: Signer, R: Source<Beside = W> + Drop, W: Sink>(
     ensures shells { Draws R.left R.given (unheld input) (unheld result.1) (λ b.
         Shells (S.is_seal signer.now) url.now
         (ReadsUpToDate (S.is_seal signer.now) url.now R.left R.looks (unheld input) (unheld result.1) (N.came dial.old) resolver.old (W.taken output.old) (W.passed output.old))
-        (R.left result.1) b (N.came dial.old) (N.came dial.new) resolver.old resolver.new (W.taken output.old) (W.taken output.new) result.0) }
+        (R.left result.1) b (N.came dial.old) (N.came dial.new) resolver.old resolver.new (W.taken output.old) (W.taken output.new)
+        (W.passed output.old) (W.passed output.new) result.0) }
 
-    // Where the output didn't fail, all that it took is passed on.
+    // Where the output didn't fail, all that it took is passed on, if it was so at first.
     ensures flushed { result.0 ≢ OutputFailed → W.passed output.old ≡ W.taken output.old → W.passed output.new ≡ W.taken output.new }
     ensures no_read_failed { result.0 ≢ InputFailed → R.faults result.1 ≡ R.faults input }
     ensures reads { HasCause (R.faults input) (R.faults result.1) (result.0 ≡ InputFailed) }

@@ -39,7 +39,7 @@ module _ {R W : Type 0} (rest given : R → Option (List ℕ)) (looks : R → Lo
   abbrev pub Answering : (seal : List ℕ) → Url → Client → Client → (mid after : Links) → (input input' : R) → (output output' : W) → ShellEnd → Type 0
   Answering seal u client client' mid after input input' output output' end = Draws rest given (unheld input) (unheld input') (λ b.
       Shells (is_seal_by seal) u (ReadsUpToDate (is_seal_by seal) u rest looks (unheld input) (unheld input') mid client (taken output) (passed output))
-      (rest input') b mid after client client' (taken output) (taken output') end)
+      (rest input') b mid after client client' (taken output) (taken output') (passed output) (passed output') end)
 
   -- A client was pinned at the manifest of the first reply, under the seal, and answered lines until the shell ended; or it wasn't pinned,
   -- and the rest isn't touched.

@@ -1,4 +1,4 @@
-use Rattle.std.proofs.Common.{◌≡◌, ◌∙◌, refl, rules, arith, inl}
+use Rattle.std.proofs.Common.{◌≡◌, ◌∙◌, Some, refl, ap, rules, arith, inl}
 use Rattle.cv_http.proofs.Lemmas.{gets_same, draws_of, draws_as}
 use Rattle.cv_client.proofs.Lemmas.{asks_none, asks_then}
 use Rattle.cv_shell.proofs.Streams.{draws_then}
@@ -41,7 +41,7 @@ returns-in-Some-clause-shells g c =
     up_to_date_on (g.S.Signer.is_seal c.args.signer.now) c.args.url.now g.R.Source.left g.R.Source.given g.R.Source.looks c.args.lines.now (g.N.Dial.came c.args.dial.now) c.args.resolver.now (g.W.Sink.taken c.args.output.now) (g.W.Sink.passed c.args.output.now)
     c.turns.lines c.next_line.new.self c.turns.invariant.so_far c.turns.invariant.flushed c.next_line.ensures.looks in
     draws_then g.R.Source.left g.R.Source.given c.args.lines.now c.turns.lines c.next_line.new.self _ _ _ so_far (rw c.in-Ok-Some.field-0-is at c.in-Ok-Some.ensures.reads)
-    (λ b more told so next. one_last more told so next (rw same at c.in-Some.ensures.answered))
+    (λ b more told so next. one_last more told so next (λ is was. c.in-Some.ensures.held (ap (λ end. Some end) is) ∙ c.turns.invariant.flushed was) (rw same at c.in-Some.ensures.answered))
 
 pub turns-preserved : goal.turns-preserved
 turns-preserved g c =
