@@ -154,6 +154,7 @@ impl<T: Write> Sink for StreamSink<T> {
         ensures appends { WriteAppends (T.contents self.old.inner) (T.contents self.new.inner)
             result bytes.now }
         ensures sticks { 0 < self.old.faults.number → IsErr result }
+        ensures unasked { 0 < self.old.faults.number → self.new.inner ≡ self.old.inner }
         ensures no_write_failed { OnOk result (self.new.faults.number ≡ self.old.faults.number) }
         ensures cause { HasCause self.old.faults.number self.new.faults.number (IsErr result) }
     {
@@ -172,6 +173,7 @@ impl<T: Write> Sink for StreamSink<T> {
     fn flush(&mut self) -> Result<(), Failed>
         ensures keeps { Keeps (T.contents self.old.inner) (T.contents self.new.inner) }
         ensures sticks { 0 < self.old.faults.number → IsErr result }
+        ensures unasked { 0 < self.old.faults.number → self.new.inner ≡ self.old.inner }
         ensures no_write_failed { OnOk result (self.new.faults.number ≡ self.old.faults.number) }
         ensures cause { HasCause self.old.faults.number self.new.faults.number (IsErr result) }
     {

@@ -21,6 +21,7 @@ fn fill<W: Write + Drop>(rt: &impl Abort, alloc: Global, writes: W) -> Result<us
     let taken = sink.write(bytes.as_slice()).unwrap_or(0);
     assert!(rt; 0 < taken && taken < MUCH);
     assert!(rt; sink.write(bytes.as_slice()).is_err() && sink.faults() == 1);
+    assert!(rt; sink.flush().is_err() && sink.faults() == 2);
     Ok(taken)
 }
 
