@@ -56,25 +56,28 @@ fn step<W: Sink>(sink: &mut W, bytes: &[u8]) -> bool {
     write_all(sink, bytes).is_ok()
 }
 
-// Whether the steps come out so in room for four bytes, where the call of this number fails; and what was taken.
-fn steps_in_room(alloc: Global, failing: u64) -> Result<(bool, Vec<u8>), Fail> {
+// Whether the steps come out so in room for four bytes, where the call of this number fails; and whether this was taken.
+fn steps_in_room(alloc: Global, failing: u64, taken: &[u8]) -> Result<(bool, bool), Fail> {
     let mut sink = MemorySink::new(alloc, 4, vec![in alloc; failing]?)?;
     let mut so = true;
     for (bytes, done, passed) in &STEPS {
         let found = step(&mut sink, bytes);
         so = so && found == *done && sink.passed() == *passed;
     }
-    let count = sink.as_slice().len();
-    let taken = sink.into_vec();
-    Ok((so && count == taken.len(), taken))
+    let seen = sink.as_slice() == taken;
+    Ok((so, seen && sink.into_vec().as_slice() == taken))
 }
 
-// Three bytes don't fit behind two, or the third call fails.
+// Three bytes don't fit behind two, the third call fails, or the first flush does, in the place of a later one.
 #[test]
 fn sink_takes_what_fits_until_a_call_fails(rt: HostRuntime) -> Result<(), Fail> {
-    for (failing, taken) in [(0, b"abcd".as_slice()), (3, b"ab".as_slice())] {
-        let (so, found) = steps_in_room(rt.alloc(), failing)?;
-        assert!(rt; so && found.as_slice() == taken);
+    for (failing, so, taken) in [
+        (0, true, b"abcd".as_slice()),
+        (3, true, b"ab".as_slice()),
+        (2, false, b"ab".as_slice()),
+    ] {
+        let found = steps_in_room(rt.alloc(), failing, taken)?;
+        assert!(rt; found == (so, true));
     }
     Ok(())
 }
