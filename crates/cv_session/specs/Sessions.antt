@@ -96,8 +96,8 @@ module _ (repository : List ℕ) (keys : List Key) (seal : List ℕ → List ℕ
       full : (last : IsLast es held) (taken' : Option (List ℕ)) → is_full last.last_.answer ≡ true → taken' ≡ onto taken (sayings es) → Ended Passed held taken es [] taken' JournalFull
       -- the source failed where more bytes were waited for: all that was whole was answered, and nothing then
       unread : (rest : List ℕ) (line : Bool) (taken' : Option (List ℕ)) → Opened es rest → Awaits rest line → taken' ≡ onto taken (sayings es ++ line_text line) → Ended Passed held taken es [] taken' ReadFault
-      -- the sink failed in a reply as the program writes one, or in its flush: all before it was said and passed on, the line that asks
-      -- for the body too, and no further turn was taken
+      -- the sink failed when all before this reply had been said and passed on, the line that asks for the body too, and nothing of the
+      -- reply, which is one as the program writes it: it took a front of that, and no later turn was taken
       broken : (e : Exchange) (rest : List ℕ) (taken' : Option (List ℕ)) → Opened es rest → Comes (length es) rest e.asked held → IsAnswered e → IsWritten e
           → Wrote (onto taken (sayings es ++ line_text e.asked.waited)) taken' (reply_of e.answer (is_last e))
           → Passed (sayings es ++ line_text e.asked.waited) → Ended Passed held taken es e.calls taken' WriteFault
