@@ -60,7 +60,6 @@ fn head_text(
 }
 
 /// Writes a head and then a body, in a write of each, and flushes the sink.
-#[tactic(auto, using(cv_ports::proofs::Laws::wrote_front, cv_ports::proofs::Laws::wrote_back))]
 pub(crate) fn send_parts<W: Sink>(sink: &mut W, head: &[u8], body: &[u8]) -> Result<(), Failed>
     ensures whole { OnOk result (W.taken sink.new ≡ onto (W.taken sink.old) (head.now ++ body.now)) }
     ensures part { Wrote (W.taken sink.old) (W.taken sink.new) (head.now ++ body.now) }
