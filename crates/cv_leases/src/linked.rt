@@ -70,7 +70,6 @@ impl Linked {
     }
 
     /// Puts a lease behind all others.
-    #[tactic(auto, using(crate::proofs::Tied::tied_same, crate::proofs::Tied::same_entries))]
     pub(crate) fn grant<L: Ledger>(&mut self, lease: Lease, blank: Blank) -> Result<(), NoMemory>
         requires whole { IsLinked self.old }
         requires free { busy (leases_in self.old.queue) lease.path ≡ None }

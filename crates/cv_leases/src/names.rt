@@ -52,7 +52,6 @@ impl Names {
     }
 
     /// The place of the name below a place.
-    #[tactic(auto, using(cv_links::proofs::Laws::live_in, cv_links::proofs::Laws::rest_none))]
     fn child<L: Ledger>(&self, above: Id, name: &str, steps: &mut Steps<L>) -> Option<Id>
         requires whole { IsNames self.now }
         requires live { IsLive self.now.places above }
@@ -90,7 +89,6 @@ impl Names {
     }
 
     /// The place of a path, which is made where there is none.
-    #[tactic(auto, using(crate::proofs::Places::leased_on, crate::proofs::Places::leased_same))]
     pub(crate) fn place<L: Ledger>(
         &mut self,
         path: &RepoPath,

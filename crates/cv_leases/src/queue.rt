@@ -54,7 +54,6 @@ impl Queue {
     }
 
     /// The place of the lease with this token.
-    #[tactic(auto, using(cv_links::proofs::Laws::live_in, cv_links::proofs::Laws::rest_none))]
     pub(crate) fn seek<L: Ledger>(&self, token: Token, steps: &mut Steps<L>) -> Option<Id>
         requires { IsQueue self.now }
         ensures within { IfSome result (λ id. Contains (ids_of self.now) id) }
@@ -71,7 +70,6 @@ impl Queue {
     }
 
     /// The place of the last of the leases that overlap the path.
-    #[tactic(auto, using(cv_links::proofs::Laws::live_in, cv_links::proofs::Laws::rest_none))]
     pub(crate) fn last_overlapping<L: Ledger>(
         &self,
         path: &RepoPath,

@@ -1,6 +1,7 @@
 use Rattle.std.proofs.Common.{◌≡◌, ◌∙◌, IfSome, Contains, rules, sym, ap, subst}
 use Rattle.cv_links.specs.Arena.{value_at}
 use Rattle.cv_links.specs.Chains.{list_of, rest_of}
+use Rattle.cv_links.proofs.Laws.{live_in, rest_none}
 use Rattle.cv_leases.specs.Names.{named}
 use Rattle.cv_leases.proofs.Trees.{below_is}
 use Rattle.cv_leases.proofs.Rooted.{child_found, child_next}
@@ -36,3 +37,18 @@ returns-then-is_named-clause-above g c =
     let chain = c.get.result.now.below in
     let within : Contains (list_of a chain) c.in-Some.id = subst (λ o. IfSome o (λ id. Contains (list_of a chain) id)) c.in-Some.is c.loop-at.invariant.within in
     c.requires.whole.tree.below c.args.above c.in-Some.id (subst (λ l. Contains l c.in-Some.id) (sym (below_is a c.args.above c.get.result.now c.get.ensures)) within)
+
+pub get-requires-in-Some : goal.get-requires-in-Some
+get-requires-in-Some g c =
+    let a = c.args.self.now.places in
+    let chain = c.get.result.now.below in
+    let is = (c.requires.whole.tree.chains c.args.above c.get.result.now c.get.ensures).0 in
+    live_in a chain (list_of a chain) c.in-Some.id is (subst (λ o. IfSome o (λ id. Contains (list_of a chain) id)) c.in-Some.is c.loop-at.invariant.within)
+
+pub returns-clause-named : goal.returns-clause-named
+returns-clause-named g c =
+    let a = c.args.self.now.places in
+    let chain = c.get.result.now.below in
+    ap (named (value_at a) c.args.name.now) (sym (rest_none a chain))
+    ∙ subst (λ o. named (value_at a) c.args.name.now (rest_of a chain o) ≡ named (value_at a) c.args.name.now (list_of a chain)) c.in_default.is c.loop-at.invariant.rest
+    ∙ ap (named (value_at a) c.args.name.now) (sym (below_is a c.args.above c.get.result.now c.get.ensures))

@@ -1,7 +1,7 @@
-use Rattle.std.proofs.Common.{◌≡◌, ◌∙◌, Some, length, take, ap, subst, arith}
+use Rattle.std.proofs.Common.{◌≡◌, ◌∙◌, Some, length, take, ap, subst, inl, inr, arith}
 use Rattle.cv_links.specs.Arena.{value_at}
 use Rattle.cv_leases.specs.Names.{named, below_of, place_of}
-use Rattle.cv_leases.proofs.Climbing.{within_more}
+use Rattle.cv_leases.proofs.Climbing.{within_more, root_within}
 use Rattle.cv_leases.proofs.Places.{leased_on, one_more, next_name}
 use Rattle.cv_leases.proofs.names.Names.place.Goals as goal
 
@@ -36,3 +36,21 @@ child_or_new-requires-clause-pruned g c = c.loop-name.invariant.pruned
 
 pub returns-clause-pruned : goal.returns-clause-pruned
 returns-clause-pruned g c = c.loop-name.invariant.pruned
+
+pub returns-in-Err-clause-leases : goal.returns-in-Err-clause-leases
+returns-in-Err-clause-leases g c =
+    leased_on c.args.self.now c.loop-name.self c.prune.new.self c.loop-name.invariant.leases
+    (leased_on c.loop-name.self c.child_or_new.new.self c.prune.new.self c.child_or_new.ensures.leases c.prune.ensures.leases)
+
+pub loop-name-init : goal.loop-name-init
+loop-name-init g c = record {
+  whole = c.top.ensures.whole;
+  leases = c.top.ensures.leases;
+  live = c.in_ok-at.ensures.live;
+  pruned = λ id live. elim (c.top.ensures.pruned id live) [
+    | inl is ↦ inl is
+    | inr needed ↦ inr (inl needed)
+  ];
+  near = root_within c.top.new.self c.in_ok-at.at c.in_ok-at.ensures.root;
+  so_far = c.in_ok-at.ensures.root;
+}
