@@ -101,7 +101,8 @@ module _ (repository : List ℕ) (keys : List Key) (seal : List ℕ → List ℕ
       broken : (e : Exchange) (rest : List ℕ) (taken' : Option (List ℕ)) → Opened es rest → Comes (length es) rest e.asked held → IsAnswered e → IsWritten e
           → Wrote (onto taken (sayings es ++ line_text e.asked.waited)) taken' (reply_of e.answer (is_last e))
           → Passed (sayings es ++ line_text e.asked.waited) → Ended Passed held taken es e.calls taken' WriteFault
-      -- the sink failed in the line that asks for a body, or in its flush: all before it was said and passed on
+      -- the sink failed when all before the line that asks for a body had been said and passed on, and nothing of the line: it took a front
+      -- of that, and the desk was asked for nothing more
       broken_line : (rest : List ℕ) (taken' : Option (List ℕ)) → Opened es rest → Reached rest true → Wrote (onto taken (sayings es)) taken' continue_line → Passed (sayings es)
           → Ended Passed held taken es [] taken' WriteFault
       -- memory was wanted where a request was read

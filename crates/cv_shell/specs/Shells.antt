@@ -76,8 +76,8 @@ module _ (is_seal : List ℕ → List ℕ → Bool) (u : Url) where
       → (look : Look) → looks lines'.source look → looks lines.source look ⊎ IsUpToDate (left lines.source) lines.held l r taken turns look
 
   -- A shell over the bytes b that it read: its turns and its end, and the reads of the source fit the turns. Where the output failed, it
-  -- had passed on by flushes what was printed in the turns, and no more, if all that it had taken was passed on at first: so it failed in
-  -- the next line's text or in its flush, and no later line was answered.
+  -- had passed on by flushes what was printed in the turns, and no more, if all that it had taken was passed on at first: so the next line
+  -- was answered at most, and no later one.
   pub record Shells (Fit : List Turn → Type 0) (left : Option (List ℕ)) (b : List ℕ) (l l' : Links) (r r' : Client) (taken taken' passed passed' : Option (List ℕ)) (end : ShellEnd) : Type 0 where
     pub turns : List Turn
     pub ends : Ends left b l l' r r' taken taken' turns end
