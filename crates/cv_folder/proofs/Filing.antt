@@ -16,7 +16,7 @@ use Rattle.cv_system.specs.Walks.{SettlesAll}
 use Rattle.cv_system.specs.Ways.{SyncsAllWays}
 use Rattle.cv_folder.specs.Syncs.{SettlesFirst, SyncsAll, SyncsHeld}
 use Rattle.cv_system.specs.Looks.{folders_past}
-use Rattle.cv_folder.specs.Writes.{EndsOnWay, Leads, LeadsTo, MovesFile, Prepares, Puts, WritesFile, syncs_by}
+use Rattle.cv_folder.specs.Writes.{EndsOnWay, Leads, LeadsTo, MovesFile, Prepares, Puts, WritesFile, made_at}
 use Rattle.cv_folder.proofs.Acts.{acts_so}
 use Rattle.cv_folder.proofs.Preparing.{prepares_wider}
 
@@ -66,7 +66,7 @@ module _ {F : Type 0} (root name bytes : List ℕ) (was hold : Hold F) (is_unset
   unfolding WritesFile
   writes_no_more after same = (begun, begins, inl (refl, same))
 
-  module _ (held : IsHeld hold) (named : IsTrue (is_name name)) (path next : List ℕ) (from : ℕ) (at : path ≡ path_of root name) (size : from ≡ length root + 1)
+  module _ (held : IsHeld hold) (named : IsTrue (is_name name)) (path : List ℕ) (from : ℕ) (at : path ≡ path_of root name) (size : from ≡ length root + 1)
       (set ready : Log) (same : set ≡ begun) (prepares : Prepares from path noted set ready) where
     prepared : Prepares (length root + 1) (path_of root name) noted begun ready
     prepared =
@@ -84,11 +84,23 @@ module _ {F : Type 0} (root name bytes : List ℕ) (was hold : Hold F) (is_unset
     writes_on_way ends = (begun, begins, inr (held, named, ready, prepared, inr (refl, way_so (λ n p log. EndsOnWay n p log ready) _ _ _ _ _ _ size at same ends, refl)))
 
     -- the file is put, or that fails
-    pub writes_so : (done : Bool) (after : Log) → next ≡ folder_of path ++ codes ".cvkit-next" → LeadsTo from path noted set ready → Puts (syncs_by name) next path bytes done ready after → WritesFile root name bytes was hold is_unsettled noted done before after
+    pub writes_so : (done : Bool) (place : List ℕ) (after : Log) → place ≡ made_at root name → LeadsTo from path noted set ready → Puts name place path bytes done ready after
+        → WritesFile root name bytes was hold is_unsettled noted done before after
     unfolding WritesFile
-    writes_so done after beside (leads, above) puts =
-        let own : next ≡ next_of root name = beside ∙ ap (λ (p : List ℕ). folder_of p ++ codes ".cvkit-next") at in
-        (begun, begins, inr (held, named, ready, prepared, inl ((led leads, subst (λ (p : List ℕ). IsTrue (noted (folder_of p))) at above), subst (λ (n : List ℕ). Puts (syncs_by name) n (path_of root name) bytes done ready after) own (subst (λ (p : List ℕ). Puts (syncs_by name) next p bytes done ready after) at puts))))
+    writes_so done place after made (leads, above) puts = (
+      begun,
+      begins,
+      inr (
+        held,
+        named,
+        ready,
+        prepared,
+        inl (
+          (led leads, subst (λ (p : List ℕ). IsTrue (noted (folder_of p))) at above),
+          subst (λ (n : List ℕ). Puts name n (path_of root name) bytes done ready after) made (subst (λ (p : List ℕ). Puts name place p bytes done ready after) at puts),
+        ),
+      ),
+    )
 
 -- a write is what it was where more is unsettled by then, and more is noted
 pub writes_by_then : {F : Type 0} (root name bytes : List ℕ) (was hold : Hold F) (is_unsettled by_then : Bool) (noted more : List ℕ → Bool) (done : Bool) (before after : Log)

@@ -1,6 +1,6 @@
 -- What lets the log of a system grow.
 use Rattle.std.proofs.Common.{◌≡◌, ◌∷◌, [], Bool, true, false, List, ℕ, Some, Ok, Err, refl, inl, inr, string_bytes}
-use Rattle.std.specs.Prelude.{◌⊎◌}
+use Rattle.std.specs.Prelude.{◌⊎◌, ⊤}
 use Rattle.std.specs.declared.io.Error.{Error}
 use Rattle.cv_system.specs.declared.seen.Seen.{Seen}
 use Rattle.cv_system.specs.Calls.{Cause, Call, Created, Done, Failed, Locked, Log, Looked, Made, Opened, Outcome, Removed, Unmade, and_call}
@@ -9,6 +9,7 @@ use Rattle.cv_base.specs.Path.{with_slash}
 use Rattle.cv_system.specs.Names.{path_of}
 use Rattle.cv_system.specs.Steps.{EndsFailed, Grows, Still, Then, Tries}
 use Rattle.cv_system.proofs.Laws.{fails_now, fails_then, grows, no_step, one_call, steps_then}
+use Rattle.cv_folder.proofs.Anew.{anew_makes}
 use Rattle.cv_folder.specs.declared.folder_vault.FolderVault.{FolderVault}
 use Rattle.cv_folder.specs.declared.hold.Hold.{Hold}
 use Rattle.cv_folder.specs.declared.hold.Hold.TheVariants.{Absent, Held, Refused, Unasked}
@@ -98,12 +99,6 @@ module _ {S F N : Type 0} (log : S → Log) (before after : FolderVault S F N) w
   found_grows root name hold seen (asked, asks, (held, named, (through, folders, is_file, is))) =
       steps_then (asks_grow (string_bytes before.root) before.hold after.hold _ asked asks) (Then (sees_grow _ asked through folders) (Looked (path_of root name) (Ok seen), tt, is))
 
-tries_grow : (calls : List (Outcome → Call)) (all : Bool) (before after : Log) → Tries calls all before after → Grows before after
-tries_grow [] all before after (made, same) = no_step same
-tries_grow (call ∷ calls) all before after (inl tried) = steps_then (one_call (call Done) tt refl) (tries_grow calls all _ after tried)
-tries_grow (call ∷ calls) all before after (inr (cause, never, is)) = one_call (call (Failed cause)) tt is
-
-pub anew_grows : (next : List ℕ) (calls : List (Outcome → Call)) (all : Bool) (before after : Log) → TriesAnew next calls all before after → Grows before after
-anew_grows next calls all before after (inl tried) = steps_then (one_call (Created next Done) tt refl) (tries_grow calls all _ after tried)
-anew_grows next calls all before after (inr (inl (never, cause, other, is))) = one_call (Created next (Failed cause)) tt is
-anew_grows next calls all before after (inr (inr (cause, taken, tried))) = steps_then (one_call (Created next (Failed cause)) tt refl) (tries_grow (Removed next ∷ Created next ∷ calls) all _ after tried)
+-- a file that is created anew
+pub anew_grows : (at : List ℕ) (all : Bool) (before after : Log) → TriesAnew at [] all before after → Grows before after
+anew_grows at all before after tried = anew_makes (λ _. ⊤) at [] all before after (λ out. tt) (λ out. tt) tt tried

@@ -6,13 +6,13 @@ mod Filing
 mod Growing
 mod Holding
 mod Listed
+mod Naming
 mod Notes
 mod Others
 mod Preparing
 mod Quiet
 mod Reasons
 mod Seeing
-mod SyncsBy
 mod Vain
 mod Well
 mod Within

@@ -21,6 +21,7 @@ use Rattle.cv_folder.specs.Causes.{FailsBy, FailsOnWay, FailsToMove, FailsToRead
 use Rattle.cv_folder.specs.FolderVault.{Acts}
 use Rattle.cv_folder.specs.FolderVaultInner.{FailsToMake, FailsToMoveOn, FindsNamed, MakesHeld, RemovesOwn}
 use Rattle.cv_folder.specs.Reads.{HasFile}
+use Rattle.cv_folder.specs.Writes.{made_at}
 
 module _ {S F N : Type 0} (log : S → Log) (before after : FolderVault S F N) where
   found_unread : (root name path : List ℕ) (hold : Hold F) (seen : Seen) (cause : Cause) (end : Log) → path ≡ path_of root name → Acts log (FindsNamed {E = Error} root name hold (Ok (Some seen))) before after
@@ -140,9 +141,9 @@ module _ {F : Type 0} (root name : List ℕ) (hold : Hold F) (cause : Cause) (be
   write_no_way fails = inr (inl (way_then cause before between after made fails))
 
   -- or where the file isn't put
-  pub write_not_put : (next : List ℕ) → next ≡ next_of root name → RemovesOwn next cause between after → FailsToWrite root name hold cause before after
+  pub write_not_put : (place : List ℕ) → place ≡ made_at root name → RemovesOwn place cause between after → FailsToWrite root name hold cause before after
   unfolding FailsToWrite
-  write_not_put next at (failed, gone, fails, is) =
+  write_not_put place at (failed, gone, fails, is) =
       inr (inr (failed, gone, fails_then made fails, inl (subst (λ (n : List ℕ). after ≡ and_call (Removed n gone) failed) at is)))
 
 -- a name isn't served, or the path of the own file is too long

@@ -1,10 +1,10 @@
 -- What a vault changes is within its folder, and a write gives a name to a whole file alone.
-use Rattle.std.proofs.Common.{◌≡◌, ◌++◌, ◌∷◌, [], Bool, Decides, true, false, List, ℕ, Option, Some, None, Result, Ok, Err, Vec, refl, inl, inr, map, codes, string_bytes}
+use Rattle.std.proofs.Common.{◌≡◌, ◌++◌, ◌∷◌, [], Bool, Decides, true, false, List, ℕ, Option, Some, None, Result, Ok, Err, Vec, refl, subst, inl, inr, map, codes, string_bytes, if◌then◌else◌}
 use Rattle.std.specs.Prelude.{◌⊎◌, IsTrue}
 use Rattle.cv_system.specs.declared.seen.Seen.{Seen}
 use Rattle.cv_system.specs.declared.syncing.Unsynced.{Unsynced}
-use Rattle.cv_system.specs.Calls.{Call, Created, Done, Ended, Failed, Log, Looked, Outcome, Removed, Renamed, Wrote, and_call}
-use Rattle.cv_system.specs.Names.{folder_of, is_name, next_of, path_of}
+use Rattle.cv_system.specs.Calls.{Begun, Call, Created, Done, Ended, Failed, Log, Looked, Outcome, Removed, Renamed, Synced, Wrote, and_call}
+use Rattle.cv_system.specs.Names.{folder_of, is_name, is_way, next_of, path_of}
 use Rattle.cv_system.specs.Steps.{Makes, Still, Then, Tries}
 use Rattle.cv_system.specs.Syncs.{syncs}
 use Rattle.cv_system.specs.Walks.{IsUnder}
@@ -17,18 +17,19 @@ use Rattle.cv_folder.specs.Listed.{ListsNamed}
 use Rattle.cv_folder.specs.Reads.{MeasuresNamed, ReadsNamed}
 use Rattle.cv_folder.specs.Syncs.{SettlesFirst, SyncsAll, SyncsHeld}
 use Rattle.cv_folder.specs.Unsynced.{FailsFirst, FailsSync, SyncsInVain, SyncsNotAll}
-use Rattle.cv_folder.specs.Within.{ChangesWithin, IsWithin, NamesWhole, StaysWithin}
-use Rattle.cv_folder.specs.Writes.{MovesFile, MovesNamed, Puts, RemovesNamed, TriesAnew, WritesFile, put, syncs_by}
+use Rattle.cv_folder.specs.Within.{ChangesWithin, IsWithin, NamesWhole, RenamesNothing, StaysWithin}
+use Rattle.cv_folder.specs.Writes.{MovesFile, MovesNamed, Puts, RemovesNamed, TriesAnew, WritesFile, made_at, named_by, put}
 use Rattle.cv_folder.proofs.Quiet.{Quiet, asks_quiet, begins_quiet, has_quiet, in_vain_quiet, lacks_quiet, lists_quiet, next_within, no_other_quiet, other_quiet, path_within, prepares_quiet, reads_quiet, removes_quiet, unread_quiet}
-use Rattle.cv_folder.proofs.SyncsBy.{by_renames_nothing, by_within}
+use Rattle.cv_folder.proofs.Anew.{AreSuch, anew_makes}
+use Rattle.cv_folder.proofs.Naming.{made_beside, made_on_way, named_beside, named_on_way}
 
 -- what changes little stays within the folder
 pub quiet_within : (root : List ℕ) (before after : Log) → Makes (Quiet root) before after → StaysWithin root before after
 quiet_within root before after quiet = steps_wider (λ one other (call, such, is). (call, such.0, is)) quiet
 
 -- and gives no file a name
-quiet_names : (By : List ℕ → Outcome → Call) (root next path bytes : List ℕ) (before after : Log) → Makes (Quiet root) before after → NamesWhole By next path bytes before after
-quiet_names By root next path bytes before after quiet = steps_wider (λ one other (call, such, is). inl (call, such.1, is)) quiet
+quiet_names : (root next path bytes : List ℕ) (before after : Log) → Makes (Quiet root) before after → NamesWhole next path bytes before after
+quiet_names root next path bytes before after quiet = steps_wider (λ one other (call, such, is). inl (call, such.1, is)) quiet
 
 module _ (root : List ℕ) where
   -- ---- a call about a name
@@ -109,53 +110,74 @@ module _ (root : List ℕ) where
     path_so : IsWithin root (path_of root name)
     path_so = inr (path_within root name)
 
-    put_within : (all : Bool) (before after : Log) → Tries (put (syncs_by name) (next_of root name) (path_of root name) bytes) all before after → StaysWithin root before after
-    put_within all before after (inl (inl (inl (made, is)))) =
-        Then (Then (one_call (Wrote (next_of root name) bytes Done) next_so refl) (syncs_by name (next_of root name) Done, by_within root name (next_of root name) Done, refl)) (Renamed (next_of root name) (path_of root name) Done, (next_so, path_so), is)
-    put_within all before after (inl (inl (inr (cause, never, is)))) =
-        Then (Then (one_call (Wrote (next_of root name) bytes Done) next_so refl) (syncs_by name (next_of root name) Done, by_within root name (next_of root name) Done, refl)) (Renamed (next_of root name) (path_of root name) (Failed cause), (next_so, path_so), is)
-    put_within all before after (inl (inr (cause, never, is))) = Then (one_call (Wrote (next_of root name) bytes Done) next_so refl) (syncs_by name (next_of root name) (Failed cause), by_within root name (next_of root name) (Failed cause), is)
-    put_within all before after (inr (cause, never, is)) = one_call (Wrote (next_of root name) bytes (Failed cause)) next_so is
+    made_within : IsWithin root (made_at root name)
+    unfolding made_at
+    made_within = elim (is_way name) as (λ (is : Bool). IsWithin root (if is then path_of root name else next_of root name)) [
+      | true ↦ path_so
+      | false ↦ next_so
+    ]
 
-    put_names : (all : Bool) (before after : Log) → Tries (put (syncs_by name) (next_of root name) (path_of root name) bytes) all (and_call (Created (next_of root name) Done) before) after
-        → NamesWhole (syncs_by name) (next_of root name) (path_of root name) bytes before after
+    named_within : (at : List ℕ) → IsWithin root at → AreSuch (ChangesWithin root) (named_by name at (path_of root name))
+    unfolding named_by
+    named_within at within = elim (is_way name) as (λ (is : Bool). AreSuch (ChangesWithin root) (if is then Begun at ∷ [] else (Synced at ∷ Renamed at (path_of root name) ∷ []))) [
+      | true ↦ (λ out. tt, tt)
+      | false ↦ (λ out. tt, (λ out. (within, path_so), tt))
+    ]
+
+    anew_within : (at : List ℕ) → IsWithin root at → (all : Bool) (before after : Log) → TriesAnew at (put name at (path_of root name) bytes) all before after → StaysWithin root before after
+    anew_within at within all before after tried =
+        anew_makes (ChangesWithin root) at (put name at (path_of root name) bytes) all before after (λ out. within) (λ out. within) (λ out. within, named_within at within) tried
+
+    puts_within : (done : Bool) (before after : Log) → Puts name (made_at root name) (path_of root name) bytes done before after → StaysWithin root before after
+    unfolding Puts
+    puts_within true before after anew = anew_within (made_at root name) made_within true before after anew
+    puts_within false before after (tried, gone, anew, is) =
+        Then (anew_within (made_at root name) made_within false before tried anew) (Removed (made_at root name) gone, made_within, is)
+
+    -- a way gets no other name
+    way_names : (all : Bool) (before after : Log) → TriesAnew (path_of root name) (Wrote (path_of root name) bytes ∷ Begun (path_of root name) ∷ []) all before after
+        → NamesWhole (next_of root name) (path_of root name) bytes before after
+    way_names all before after tried =
+        steps_wider (λ one other step. inl step)
+        (anew_makes RenamesNothing (path_of root name) (Wrote (path_of root name) bytes ∷ Begun (path_of root name) ∷ []) all before after (λ out. tt) (λ out. tt) (λ out. tt, (λ out. tt, tt)) tried)
+
+    put_names : (all : Bool) (before after : Log) → Tries (Wrote (next_of root name) bytes ∷ Synced (next_of root name) ∷ Renamed (next_of root name) (path_of root name) ∷ []) all (and_call (Created (next_of root name) Done) before) after
+        → NamesWhole (next_of root name) (path_of root name) bytes before after
     put_names all before after (inl (inl (inl (made, is)))) = Then Still (inr is)
     put_names all before after (inl (inl (inr (cause, never, is)))) =
-        Then (Then (Then (Then Still (inl (Created (next_of root name) Done, tt, refl))) (inl (Wrote (next_of root name) bytes Done, tt, refl))) (inl (syncs_by name (next_of root name) Done, by_renames_nothing name (next_of root name) Done, refl)))
+        Then (Then (Then (Then Still (inl (Created (next_of root name) Done, tt, refl))) (inl (Wrote (next_of root name) bytes Done, tt, refl))) (inl (Synced (next_of root name) Done, tt, refl)))
         (inl (Renamed (next_of root name) (path_of root name) (Failed cause), tt, is))
     put_names all before after (inl (inr (cause, never, is))) =
-        Then (Then (Then Still (inl (Created (next_of root name) Done, tt, refl))) (inl (Wrote (next_of root name) bytes Done, tt, refl))) (inl (syncs_by name (next_of root name) (Failed cause), by_renames_nothing name (next_of root name) (Failed cause), is))
+        Then (Then (Then Still (inl (Created (next_of root name) Done, tt, refl))) (inl (Wrote (next_of root name) bytes Done, tt, refl))) (inl (Synced (next_of root name) (Failed cause), tt, is))
     put_names all before after (inr (cause, never, is)) = Then (Then Still (inl (Created (next_of root name) Done, tt, refl))) (inl (Wrote (next_of root name) bytes (Failed cause), tt, is))
 
-    anew_within : (all : Bool) (before after : Log) → TriesAnew (next_of root name) (put (syncs_by name) (next_of root name) (path_of root name) bytes) all before after → StaysWithin root before after
-    anew_within all before after (inl tried) = steps_then (one_call (Created (next_of root name) Done) next_so refl) (put_within all _ after tried)
-    anew_within all before after (inr (inl (never, cause, other, is))) = one_call (Created (next_of root name) (Failed cause)) next_so is
-    anew_within all before after (inr (inr (cause, taken, inl (inl tried)))) =
-        steps_then (Then (Then (one_call (Created (next_of root name) (Failed cause)) next_so refl) (Removed (next_of root name) Done, next_so, refl)) (Created (next_of root name) Done, next_so, refl)) (put_within all _ after tried)
-    anew_within all before after (inr (inr (cause, taken, inl (inr (other, never, is))))) =
-        Then (Then (one_call (Created (next_of root name) (Failed cause)) next_so refl) (Removed (next_of root name) Done, next_so, refl)) (Created (next_of root name) (Failed other), next_so, is)
-    anew_within all before after (inr (inr (cause, taken, inr (other, never, is)))) =
-        Then (one_call (Created (next_of root name) (Failed cause)) next_so refl) (Removed (next_of root name) (Failed other), next_so, is)
-
-    anew_names : (all : Bool) (before after : Log) → TriesAnew (next_of root name) (put (syncs_by name) (next_of root name) (path_of root name) bytes) all before after → NamesWhole (syncs_by name) (next_of root name) (path_of root name) bytes before after
-    anew_names all before after (inl tried) = put_names all before after tried
-    anew_names all before after (inr (inl (never, cause, other, is))) = Then Still (inl (Created (next_of root name) (Failed cause), tt, is))
-    anew_names all before after (inr (inr (cause, taken, inl (inl tried)))) =
+    -- any other name gets a whole file
+    beside_names : (all : Bool) (before after : Log) → TriesAnew (next_of root name) (Wrote (next_of root name) bytes ∷ Synced (next_of root name) ∷ Renamed (next_of root name) (path_of root name) ∷ []) all before after
+        → NamesWhole (next_of root name) (path_of root name) bytes before after
+    beside_names all before after (inl tried) = put_names all before after tried
+    beside_names all before after (inr (inl (never, cause, other, is))) = Then Still (inl (Created (next_of root name) (Failed cause), tt, is))
+    beside_names all before after (inr (inr (cause, taken, inl (inl tried)))) =
         steps_then (Then (Then Still (inl (Created (next_of root name) (Failed cause), tt, refl))) (inl (Removed (next_of root name) Done, tt, refl))) (put_names all _ after tried)
-    anew_names all before after (inr (inr (cause, taken, inl (inr (other, never, is))))) =
+    beside_names all before after (inr (inr (cause, taken, inl (inr (other, never, is))))) =
         Then (Then (Then Still (inl (Created (next_of root name) (Failed cause), tt, refl))) (inl (Removed (next_of root name) Done, tt, refl))) (inl (Created (next_of root name) (Failed other), tt, is))
-    anew_names all before after (inr (inr (cause, taken, inr (other, never, is)))) =
+    beside_names all before after (inr (inr (cause, taken, inr (other, never, is)))) =
         Then (Then Still (inl (Created (next_of root name) (Failed cause), tt, refl))) (inl (Removed (next_of root name) (Failed other), tt, is))
 
-    puts_within : (done : Bool) (before after : Log) → Puts (syncs_by name) (next_of root name) (path_of root name) bytes done before after → StaysWithin root before after
-    unfolding Puts
-    puts_within true before after anew = anew_within true before after anew
-    puts_within false before after (tried, gone, anew, is) = Then (anew_within false before tried anew) (Removed (next_of root name) gone, next_so, is)
+    anew_names : (way : Bool) → is_way name ≡ way → (all : Bool) (before after : Log) → TriesAnew (made_at root name) (put name (made_at root name) (path_of root name) bytes) all before after
+        → NamesWhole (next_of root name) (path_of root name) bytes before after
+    anew_names true is all before after tried =
+        way_names all before after
+        (subst (λ (calls : List (Outcome → Call)). TriesAnew (path_of root name) (Wrote (path_of root name) bytes ∷ calls) all before after) (named_on_way name (path_of root name) (path_of root name) is)
+        (subst (λ (at : List ℕ). TriesAnew at (put name at (path_of root name) bytes) all before after) (made_on_way root name is) tried))
+    anew_names false is all before after tried =
+        beside_names all before after
+        (subst (λ (calls : List (Outcome → Call)). TriesAnew (next_of root name) (Wrote (next_of root name) bytes ∷ calls) all before after) (named_beside name (next_of root name) (path_of root name) is)
+        (subst (λ (at : List ℕ). TriesAnew at (put name at (path_of root name) bytes) all before after) (made_beside root name is) tried))
 
-    puts_names : (done : Bool) (before after : Log) → Puts (syncs_by name) (next_of root name) (path_of root name) bytes done before after → NamesWhole (syncs_by name) (next_of root name) (path_of root name) bytes before after
+    puts_names : (done : Bool) (before after : Log) → Puts name (made_at root name) (path_of root name) bytes done before after → NamesWhole (next_of root name) (path_of root name) bytes before after
     unfolding Puts
-    puts_names true before after anew = anew_names true before after anew
-    puts_names false before after (tried, gone, anew, is) = Then (anew_names false before tried anew) (inl (Removed (next_of root name) gone, tt, is))
+    puts_names true before after anew = anew_names (is_way name) refl true before after anew
+    puts_names false before after (tried, gone, anew, is) = Then (anew_names (is_way name) refl false before tried anew) (inl (Removed (made_at root name) gone, tt, is))
 
     module _ {F : Type 0} (was hold : Hold F) (is_unsettled : Bool) (noted : List ℕ → Bool) (done : Bool) (before after : Log) where
       pub writes_within : WritesFile root name bytes was hold is_unsettled noted done before after → StaysWithin root before after
@@ -167,17 +189,17 @@ module _ (root : List ℕ) where
       writes_within (begun, begins, inr (held, named, ready, prepares, inr (never, ends, same))) =
           steps_then (quiet_within root before ready (steps_then (begins_quiet root was hold is_unsettled noted before begun begins) (prepares_quiet root name noted begun ready prepares))) (no_step same)
 
-      pub writes_whole : WritesFile root name bytes was hold is_unsettled noted done before after → NamesWhole (syncs_by name) (next_of root name) (path_of root name) bytes before after
+      pub writes_whole : WritesFile root name bytes was hold is_unsettled noted done before after → NamesWhole (next_of root name) (path_of root name) bytes before after
       unfolding WritesFile
       writes_whole (begun, begins, inl (never, same)) =
-          steps_then (quiet_names (syncs_by name) root (next_of root name) (path_of root name) bytes before begun (begins_quiet root was hold is_unsettled noted before begun begins)) (no_step same)
+          steps_then (quiet_names root (next_of root name) (path_of root name) bytes before begun (begins_quiet root was hold is_unsettled noted before begun begins)) (no_step same)
       writes_whole (begun, begins, inr (held, named, ready, prepares, inl (leads, puts))) =
           steps_then
-          (quiet_names (syncs_by name) root (next_of root name) (path_of root name) bytes before ready (steps_then (begins_quiet root was hold is_unsettled noted before begun begins) (prepares_quiet root name noted begun ready prepares)))
+          (quiet_names root (next_of root name) (path_of root name) bytes before ready (steps_then (begins_quiet root was hold is_unsettled noted before begun begins) (prepares_quiet root name noted begun ready prepares)))
           (puts_names done ready after puts)
       writes_whole (begun, begins, inr (held, named, ready, prepares, inr (never, ends, same))) =
           steps_then
-          (quiet_names (syncs_by name) root (next_of root name) (path_of root name) bytes before ready (steps_then (begins_quiet root was hold is_unsettled noted before begun begins) (prepares_quiet root name noted begun ready prepares)))
+          (quiet_names root (next_of root name) (path_of root name) bytes before ready (steps_then (begins_quiet root was hold is_unsettled noted before begun begins) (prepares_quiet root name noted begun ready prepares)))
           (no_step same)
 
   -- ---- a sync

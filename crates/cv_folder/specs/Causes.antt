@@ -6,6 +6,7 @@ use Rattle.cv_vault.specs.declared.vault.VaultFault.TheVariants.{Failed, NoMemor
 use Rattle.cv_folder.specs.declared.hold.Hold.{Hold}
 use Rattle.cv_folder.specs.declared.hold.Hold.TheVariants.{Refused}
 use Rattle.cv_folder.specs.GoingOn.{GoesOn}
+use Rattle.cv_folder.specs.Writes.{made_at}
 use Rattle.cv_system.specs.declared.path_buffer.TheConstants.{PATH_ROOM}
 use Rattle.cv_system.specs.declared.seen.Seen.{Seen}
 use Rattle.cv_system.specs.declared.seen.Kind.TheVariants.{Folder}
@@ -51,17 +52,17 @@ SeesNoFolder before after =
 unfoldable pub FailsOnWay : Cause → Log → Log → Type 0
 FailsOnWay cause before after = EndsFailed cause before after ⊎ ((cause.kind ≡ NotADirectory) × SeesNoFolder before after)
 
--- the last call but one failed, and the last one removed what was made by then: the own file beside a name, or the vault's folder
+-- the last call but one failed, and the last one removed what was made by then: the file of a name, or the vault's folder
 abbrev pub FailsAndLeaves : List ℕ → List ℕ → Cause → Log → Log → Type 0
-FailsAndLeaves root next cause before after =
+FailsAndLeaves root at cause before after =
     (failed : Log) × (gone : Outcome) × EndsFailed cause before failed
-    × ((after ≡ and_call (Removed next gone) failed) ⊎ (after ≡ and_call (Unmade root gone) failed))
+    × ((after ≡ and_call (Removed at gone) failed) ⊎ (after ≡ and_call (Unmade root gone) failed))
 
 -- a write fails: the name isn't served, or the path of the own file beside it is longer than the system takes, or the way isn't made, or the file isn't
 unfoldable pub FailsToWrite : {F : Type 0} → List ℕ → List ℕ → Hold F → Cause → Log → Log → Type 0
 FailsToWrite root name hold cause before after =
     ((cause.kind ≡ InvalidInput) × (IsRefused root name hold ⊎ (PATH_ROOM ≤ length (next_of root name))))
-    ⊎ FailsOnWay cause before after ⊎ FailsAndLeaves root (next_of root name) cause before after
+    ⊎ FailsOnWay cause before after ⊎ FailsAndLeaves root (made_at root name) cause before after
 
 -- a rename fails: it is one of a name to itself, or one of the two isn't served, or the way isn't made, or the last call failed
 unfoldable pub FailsToMove : {F : Type 0} → List ℕ → List ℕ → List ℕ → Hold F → Cause → Log → Log → Type 0

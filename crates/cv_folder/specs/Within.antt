@@ -1,6 +1,6 @@
 -- What the calls of a vault change: only what has the path of its folder or one that begins with it, and a write gives no name but to a whole file.
 use Rattle.std.specs.Prelude.{◌≡◌, ◌⊎◌, ℕ, List, [], ◌∷◌, ⊤}
-use Rattle.cv_system.specs.Calls.{Begun, Call, Checked, Created, Done, Ended, Entered, Failed, Locked, Log, Looked, Made, Named, Opened, Outcome, Read, Removed, Renamed, Synced, Unmade, Wrote, and_call, and_calls}
+use Rattle.cv_system.specs.Calls.{Begun, Call, Checked, Created, Done, Ended, Entered, Failed, Locked, Log, Looked, Made, Named, Opened, Read, Removed, Renamed, Synced, Unmade, Wrote, and_call, and_calls}
 use Rattle.cv_system.specs.Steps.{Makes, Steps}
 use Rattle.cv_system.specs.Walks.{IsUnder}
 
@@ -51,13 +51,12 @@ RenamesNothing (Unmade folder out) = ⊤
 RenamesNothing (Entered folder out) = ⊤
 RenamesNothing (Named folder names) = ⊤
 
--- a whole file gets its name: it is created anew, all the bytes are written to it, it becomes durable by such a call, and then it is renamed, by four
--- calls in a row
-abbrev pub PutsWhole : (List ℕ → Outcome → Call) → List ℕ → List ℕ → List ℕ → Log → Log → Type 0
-PutsWhole By next path bytes before after =
-    after ≡ and_calls (Created next Done ∷ Wrote next bytes Done ∷ By next Done ∷ Renamed next path Done ∷ []) before
+-- a whole file gets its name: it is created anew, all the bytes are written to it, it becomes durable, and then it is renamed, by four calls in a row
+abbrev pub PutsWhole : List ℕ → List ℕ → List ℕ → Log → Log → Type 0
+PutsWhole next path bytes before after =
+    after ≡ and_calls (Created next Done ∷ Wrote next bytes Done ∷ Synced next Done ∷ Renamed next path Done ∷ []) before
 
--- no file gets a name otherwise
-abbrev pub NamesWhole : (List ℕ → Outcome → Call) → List ℕ → List ℕ → List ℕ → Log → Log → Type 0
-NamesWhole By next path bytes before after =
-    Steps (λ one other. ((call : Call) × RenamesNothing call × (other ≡ and_call call one)) ⊎ PutsWhole By next path bytes one other) before after
+-- no file gets another name but a whole one so
+abbrev pub NamesWhole : List ℕ → List ℕ → List ℕ → Log → Log → Type 0
+NamesWhole next path bytes before after =
+    Steps (λ one other. ((call : Call) × RenamesNothing call × (other ≡ and_call call one)) ⊎ PutsWhole next path bytes one other) before after

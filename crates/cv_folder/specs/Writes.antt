@@ -11,26 +11,31 @@ use Rattle.cv_folder.specs.Hold.{Begins, IsHeld}
 use Rattle.cv_system.specs.Names.{folder_of, is_name, is_way, next_of, path_of}
 use Rattle.cv_folder.specs.declared.hold.Hold.{Hold}
 
--- the own file is created anew, also where something stood there and was removed, and then these calls are tried; or it can't be, for another cause
+-- a file is created anew, also where something stood there and was removed, and then these calls are tried; or it can't be, for another cause
 abbrev pub TriesAnew : List ℕ → List (Outcome → Call) → Bool → Log → Log → Type 0
-TriesAnew next calls all before after =
-    Tries calls all (and_call (Created next Done) before) after
-    ⊎ ((all ≡ false) × (cause : Cause) × (cause.kind ≢ AlreadyExists) × (after ≡ and_call (Created next (Failed cause)) before))
-    ⊎ ((cause : Cause) × (cause.kind ≡ AlreadyExists) × Tries (Removed next ∷ Created next ∷ calls) all (and_call (Created next (Failed cause)) before) after)
+TriesAnew at calls all before after =
+    Tries calls all (and_call (Created at Done) before) after
+    ⊎ ((all ≡ false) × (cause : Cause) × (cause.kind ≢ AlreadyExists) × (after ≡ and_call (Created at (Failed cause)) before))
+    ⊎ ((cause : Cause) × (cause.kind ≡ AlreadyExists) × Tries (Removed at ∷ Created at ∷ calls) all (and_call (Created at (Failed cause)) before) after)
 
--- by which call a file that is written under a name becomes durable: of a name on its way the sync is begun, and the next sync of the vault ends it
-unfoldable pub syncs_by : List ℕ → List ℕ → Outcome → Call
-syncs_by name = if is_way name then Begun else Synced
+-- where the file of a name is made: a way at its own path, and any other at the own file beside it
+unfoldable pub made_at : List ℕ → List ℕ → List ℕ
+made_at root name = if is_way name then path_of root name else next_of root name
 
--- all the bytes are written to the own file, it becomes durable by such a call, and then it is renamed onto the name
-abbrev pub put : (List ℕ → Outcome → Call) → List ℕ → List ℕ → List ℕ → List (Outcome → Call)
-put By next path bytes = Wrote next bytes ∷ By next ∷ Renamed next path ∷ []
+-- by which calls a file that was written becomes a name's: of a way, which stands at its path, the sync is begun, and the next sync of the vault
+-- ends it; any other is made durable, and then renamed onto the name
+unfoldable pub named_by : List ℕ → List ℕ → List ℕ → List (Outcome → Call)
+named_by name at path = if is_way name then Begun at ∷ [] else (Synced at ∷ Renamed at path ∷ [])
 
--- a whole file was put under a name, or it wasn't: then the own file was removed, if it could be
-unfoldable pub Puts : (List ℕ → Outcome → Call) → List ℕ → List ℕ → List ℕ → Bool → Log → Log → Type 0
-Puts By next path bytes true before after = TriesAnew next (put By next path bytes) true before after
-Puts By next path bytes false before after =
-    (tried : Log) × (gone : Outcome) × TriesAnew next (put By next path bytes) false before tried × (after ≡ and_call (Removed next gone) tried)
+-- all the bytes are written to the file that was made, and then it becomes the name's
+abbrev pub put : List ℕ → List ℕ → List ℕ → List ℕ → List (Outcome → Call)
+put name at path bytes = Wrote at bytes ∷ named_by name at path
+
+-- a whole file was put under a name, or it wasn't: then the file that was made for it was removed, if it could be
+unfoldable pub Puts : List ℕ → List ℕ → List ℕ → List ℕ → Bool → Log → Log → Type 0
+Puts name at path bytes true before after = TriesAnew at (put name at path bytes) true before after
+Puts name at path bytes false before after =
+    (tried : Log) × (gone : Outcome) × TriesAnew at (put name at path bytes) false before tried × (after ≡ and_call (Removed at gone) tried)
 
 -- a folder on the way of a path, past its first bytes
 abbrev pub IsOnWay : ℕ → List ℕ → List ℕ → Type 0
@@ -98,7 +103,7 @@ WritesFile root name bytes was hold is_unsettled noted done before after =
     (begun : Log) × Begins root was hold is_unsettled noted before begun
     × (((done ≡ false) × (after ≡ begun))
     ⊎ (IsHeld hold × IsTrue (is_name name) × (ready : Log) × Prepares (length root + 1) (path_of root name) noted begun ready
-    × ((LeadsTo (length root + 1) (path_of root name) noted begun ready × Puts (syncs_by name) (next_of root name) (path_of root name) bytes done ready after)
+    × ((LeadsTo (length root + 1) (path_of root name) noted begun ready × Puts name (made_at root name) (path_of root name) bytes done ready after)
     ⊎ ((done ≡ false) × EndsOnWay (length root + 1) (path_of root name) begun ready × (after ≡ ready)))))
 
 -- a file has more names than one, and a look sees that a path is another of them

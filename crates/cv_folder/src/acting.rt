@@ -22,7 +22,7 @@ use crate::hold::{Hold, hold_of, make_held, refused};
 use crate::listing::list_files;
 use crate::making::make_folders;
 use crate::noting::{note, note_or_all, own_text};
-use crate::putting::{move_file, put_file};
+use crate::putting::{made_at, move_file, put_file};
 use cv_base::{Bytes, Text};
 use cv_system::looks::{find_file, is_memory, read_found};
 use cv_system::{NEXT, Seen, System, folder_of, is_name, is_root};
@@ -372,13 +372,9 @@ impl<S: System + Drop> FolderVault<S> {
             from,
             &mut self.folders,
         )?;
-        put_file(
-            &mut self.system,
-            self.next.as_str(),
-            name,
-            self.path.as_str(),
-            bytes,
-        )
+        let path = self.path.as_str();
+        let at = made_at(name, self.next.as_str(), path);
+        put_file(&mut self.system, at, name, path, bytes)
     }
 
     /// Gives the file that was found at the path that is set another name.

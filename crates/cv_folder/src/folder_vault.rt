@@ -13,7 +13,7 @@ ghost use Rattle.cv_folder.specs.Noted.{is_noted};
 ghost use Rattle.cv_folder.specs.Reads.{MeasuresNamed, ReadsNamed};
 ghost use Rattle.cv_folder.specs.Unsynced.{FailsSync};
 ghost use Rattle.cv_folder.specs.Within.{NamesWhole, StaysWithin};
-ghost use Rattle.cv_folder.specs.Writes.{MovesNamed, RemovesNamed, WritesFile, syncs_by};
+ghost use Rattle.cv_folder.specs.Writes.{MovesNamed, RemovesNamed, WritesFile};
 
 use crate::hold::Hold;
 use cv_base::{Bytes, Text};
@@ -30,11 +30,11 @@ use std::alloc::{AllocError, Global};
 /// follows or removes one, but a write or a rename takes the place of one at its last part. It tells nothing of content.
 ///
 /// A write makes a new file beside the name, makes its bytes durable and then gives it the name, so that a name has whole
-/// files at all times, and a file that others have under another name isn't changed. Only of a way it begins the sync of the
-/// bytes: a crash before the next sync is done may leave a part of them under the way, or others, as of each name that
-/// was written since the last one. A way that is renamed by then leaves that to its new name, which no later process makes
-/// durable. A sync ends the syncs that were begun, and then makes the folders durable that changed
-/// since the last one. The first sync of a process makes all durable that a process before it may have left in the system's
+/// files at all times, and a file that others have under another name isn't changed. Only a way is made anew at its own path,
+/// and the sync of its bytes is begun: what stood there is gone where that fails, and a crash before the next sync is done may
+/// leave a part of the bytes under the way, or others, as of each name that was written since the last one. A way that is
+/// renamed by then leaves that to its new name, which no later process makes durable. A sync ends the syncs that were begun,
+/// and then makes the folders durable that changed since the last one. The first sync of a process makes all durable that a process before it may have left in the system's
 /// memory: each regular file that stands at a way, the folder above the vault's, the vault's own and each one below it. It
 /// passes over a folder that this process may not read only where it may look nothing up in it: each call of a name there
 /// fails too. Where the system lost what was written to a file or a folder it says so once, so each later sync fails until the
@@ -195,8 +195,7 @@ impl<S: System + Drop> Vault for FolderVault<S> {
         ensures no_name { is_name name.now ≡ false → AsksAlone S.log self.old self.new }
         ensures within { StaysWithin (string_bytes self.old.root)
             (S.log self.old.system) (S.log self.new.system) }
-        ensures whole { NamesWhole (syncs_by name.now)
-            (next_of (string_bytes self.old.root) name.now)
+        ensures whole { NamesWhole (next_of (string_bytes self.old.root) name.now)
             (path_of (string_bytes self.old.root) name.now) bytes.now
             (S.log self.old.system) (S.log self.new.system) }
     {

@@ -1,9 +1,10 @@
 //! A file that gets its name.
-ghost use Rattle.std.specs.Prelude.{◌≡◌, [], ◌∷◌, IfErr, IfOk, IsSome, is_ok};
-ghost use Rattle.cv_system.specs.Calls.{Created, Removed, and_call, cause_of, outcome};
+ghost use Rattle.std.specs.Prelude.{◌≡◌, [], ◌∷◌, IfErr, IfOk, IsSome, if◌then◌else◌, is_ok};
+ghost use Rattle.cv_system.specs.Calls.{Created, Removed, cause_of};
+ghost use Rattle.cv_system.specs.Names.{is_way};
 ghost use Rattle.cv_folder.specs.FolderVaultInner.{LooksForOther, RemovesOwn};
 ghost use Rattle.cv_system.specs.Steps.{EndsFailed, Tries};
-ghost use Rattle.cv_folder.specs.Writes.{MovesFile, Puts, TriesAnew, put, syncs_by};
+ghost use Rattle.cv_folder.specs.Writes.{MovesFile, Puts, TriesAnew, named_by, put};
 
 use cv_system::looks::seen;
 use cv_system::{Seen, System, is_way};
@@ -22,8 +23,8 @@ fn create_again<S: System>(system: &mut S, path: &str) -> io::Result<S::File>
     system.create_new(path)
 }
 
-/// A new file, which nobody else has. What an earlier process left under that name goes.
-fn create_next<S: System>(system: &mut S, path: &str) -> io::Result<S::File>
+/// A new file, which nobody else has. What an earlier write left at its path goes.
+fn create_anew<S: System>(system: &mut S, path: &str) -> io::Result<S::File>
     ensures calls { TriesAnew path.now [] (is_ok result) (S.log system.old) (S.log system.new) }
     ensures place { IfOk result (λ file. IsSome (S.log system.new) → S.place file ≡ path.now) }
     ensures fails { IfErr result (λ error. EndsFailed (cause_of error) (S.log system.old)
@@ -35,55 +36,71 @@ fn create_next<S: System>(system: &mut S, path: &str) -> io::Result<S::File>
     }
 }
 
-/// Makes a file durable that was written, or begins to where it is on its way.
-fn sync_written<S: System>(system: &mut S, file: S::File, name: &str) -> io::Result<()>
-    ensures { S.log system.new
-        ≡ and_call (syncs_by name.now (S.place file) (outcome result)) (S.log system.old) }
+/// Where the file of a name is made: a way at its own path, and any other beside it.
+pub fn made_at<'a>(name: &str, next: &'a str, path: &'a str) -> &'a str
+    ensures { result.now ≡ (if is_way name.now then path.now else next.now) }
 {
-    if is_way(name) {
-        system.begin_sync(file)
-    } else {
-        system.sync(&file)
-    }
+    if is_way(name) { path } else { next }
 }
 
-/// Makes a new file with these bytes, durable before it has the path of the name. Of a name on its way the sync is begun by then.
-fn put_next<S: System>(
+/// Gives a name the file that was written for it. Of a way, which stands at its path, it begins the sync; any other it makes
+/// durable first.
+fn give_name<S: System>(
     system: &mut S,
-    next: &str,
+    file: S::File,
     name: &str,
+    at: &str,
     path: &str,
-    bytes: &[u8],
 ) -> io::Result<()>
-    ensures tries { TriesAnew next.now (put (syncs_by name.now) next.now path.now bytes.now)
-        (is_ok result) (S.log system.old) (S.log system.new) }
+    requires { IsSome (S.log system.old) → S.place file ≡ at.now }
+    ensures tries { Tries (named_by name.now at.now path.now) (is_ok result)
+        (S.log system.old) (S.log system.new) }
     ensures fails { IfErr result (λ error. EndsFailed (cause_of error) (S.log system.old)
         (S.log system.new)) }
 {
-    let mut file = create_next(system, next)?;
-    system.write_all(&mut file, bytes)?;
-    sync_written(system, file, name)?;
-    system.rename(next, path)
+    if is_way(name) {
+        return system.begin_sync(file);
+    }
+    system.sync(&file)?;
+    system.rename(at, path)
 }
 
-/// Makes a new file with these bytes under `next`, and gives it the path of the name once they are durable, or their sync is
-/// begun. Where that fails the file goes again.
-pub fn put_file<S: System>(
+/// Makes a new file with these bytes at a path, and gives it to the name whose path is the other.
+fn put_new<S: System>(
     system: &mut S,
-    next: &str,
+    at: &str,
     name: &str,
     path: &str,
     bytes: &[u8],
 ) -> io::Result<()>
-    ensures puts { Puts (syncs_by name.now) next.now path.now bytes.now (is_ok result)
+    ensures tries { TriesAnew at.now (put name.now at.now path.now bytes.now) (is_ok result)
         (S.log system.old) (S.log system.new) }
-    ensures fails { IfErr result (λ error. RemovesOwn next.now (cause_of error)
+    ensures fails { IfErr result (λ error. EndsFailed (cause_of error) (S.log system.old)
+        (S.log system.new)) }
+{
+    let mut file = create_anew(system, at)?;
+    system.write_all(&mut file, bytes)?;
+    give_name(system, file, name, at, path)
+}
+
+/// Makes a new file with these bytes at a path, and gives it to the name whose path is the other. Where that fails the file
+/// goes again.
+pub fn put_file<S: System>(
+    system: &mut S,
+    at: &str,
+    name: &str,
+    path: &str,
+    bytes: &[u8],
+) -> io::Result<()>
+    ensures puts { Puts name.now at.now path.now bytes.now (is_ok result)
+        (S.log system.old) (S.log system.new) }
+    ensures fails { IfErr result (λ error. RemovesOwn at.now (cause_of error)
         (S.log system.old) (S.log system.new)) }
 {
-    match put_next(system, next, name, path, bytes) {
+    match put_new(system, at, name, path, bytes) {
         Ok(()) => Ok(()),
         Err(error) => {
-            let _ = system.remove_file(next);
+            let _ = system.remove_file(at);
             Err(error)
         }
     }

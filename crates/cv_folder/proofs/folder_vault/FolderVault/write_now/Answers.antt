@@ -3,6 +3,7 @@ use Rattle.std.proofs.Common.{◌∙◌, ◌+◌, ◌++◌, List, ℕ, ap, codes
 use Rattle.std.specs.Prelude.{IsTrue}
 use Rattle.cv_system.specs.Names.{folder_of, is_name, path_of}
 use Rattle.cv_folder.proofs.Filing.{begins_on, writes_no_more, writes_on_way, writes_so}
+use Rattle.cv_folder.proofs.Naming.{made_so}
 use Rattle.cv_folder.proofs.Notes.{stays_noted}
 use Rattle.cv_folder.proofs.Preparing.{above_at}
 use Rattle.cv_system.proofs.Laws.{no_step, steps_then}
@@ -32,7 +33,7 @@ returns-in_err-make_folders-clause-calls g c =
     let begins = begins_on _ _ _ _ _ _ _ _ _ c.set_next.ensures.stays.2
     (λ folder noted. c.make_folders.ensures.kept folder (stays_noted c.begin_write.new.self.folders c.set_next.new.self.folders folder folder c.set_next.ensures.stays.1 refl noted))
     (rw (← c.set_next.ensures.hold) at c.begin_write.ensures.begins) in
-    rw p.1 (writes_on_way (string_bytes c.args.self.now.root) c.args.name.now c.args.bytes.now c.args.self.now.hold c.set_next.new.self.hold _ _ _ _ begins (rw (← c.set_next.ensures.hold) at c.in_ok-begin_write.ensures.held.0) c.in_ok-begin_write.ensures.path.0 c.set_next.new.self.path c.set_next.new.self.next c.names_from-from.result
+    rw p.1 (writes_on_way (string_bytes c.args.self.now.root) c.args.name.now c.args.bytes.now c.args.self.now.hold c.set_next.new.self.hold _ _ _ _ begins (rw (← c.set_next.ensures.hold) at c.in_ok-begin_write.ensures.held.0) c.in_ok-begin_write.ensures.path.0 c.set_next.new.self.path c.names_from-from.result
     at (c.names_from-from.ensures ∙ ap (λ root. length (string_bytes root) + 1) root) _ _ c.set_next.ensures.calls (rw c.as_str.ensures.path at c.make_folders.ensures.calls) (rw c.as_str.ensures.path at c.in_err-make_folders.ensures.stops))
 
 pub returns-clause-calls : goal.returns-clause-calls
@@ -42,11 +43,13 @@ returns-clause-calls g c =
     let begins = begins_on _ _ _ _ _ _ _ _ _ c.set_next.ensures.stays.2
     (λ folder noted. c.make_folders.ensures.kept folder (stays_noted c.begin_write.new.self.folders c.set_next.new.self.folders folder folder c.set_next.ensures.stays.1 refl noted))
     (rw (← c.set_next.ensures.hold) at c.begin_write.ensures.begins) in
-    writes_so (string_bytes c.args.self.now.root) c.args.name.now c.args.bytes.now c.args.self.now.hold c.set_next.new.self.hold _ _ _ _ begins (rw (← c.set_next.ensures.hold) at c.in_ok-begin_write.ensures.held.0) c.in_ok-begin_write.ensures.path.0 c.set_next.new.self.path c.set_next.new.self.next c.names_from-from.result
-    at (c.names_from-from.ensures ∙ ap (λ root. length (string_bytes root) + 1) root) _ _ c.set_next.ensures.calls (rw c.as_str.ensures.path at c.make_folders.ensures.calls) _ _
-    (c.in_ok-set_next.ensures.next ∙ ap (λ (path : List ℕ). folder_of path ++ codes ".cvkit-next") (sym c.set_next.ensures.path))
+    writes_so (string_bytes c.args.self.now.root) c.args.name.now c.args.bytes.now c.args.self.now.hold c.set_next.new.self.hold _ _ _ _ begins (rw (← c.set_next.ensures.hold) at c.in_ok-begin_write.ensures.held.0) c.in_ok-begin_write.ensures.path.0 c.set_next.new.self.path c.names_from-from.result
+    at (c.names_from-from.ensures ∙ ap (λ root. length (string_bytes root) + 1) root) _ _ c.set_next.ensures.calls (rw c.as_str.ensures.path at c.make_folders.ensures.calls) _ c.made_at-at.result.now _
+    (made_so (string_bytes c.args.self.now.root) c.args.name.now c.set_next.new.self.next c.set_next.new.self.path c.made_at-at.result.now
+    (c.in_ok-set_next.ensures.next ∙ ap (λ (path : List ℕ). folder_of path ++ codes ".cvkit-next") (sym c.set_next.ensures.path ∙ at)) at
+    (rw (c.as_str-path.ensures.path, c.as_str-2.ensures.path) at c.made_at-at.ensures))
     (rw c.as_str.ensures.path at c.in_ok-make_folders.ensures.leads, rw c.as_str.ensures.path at c.in_ok-make_folders.ensures.noted)
-    (rw (c.as_str-2.ensures.path, c.as_str-3.ensures.path) at c.put_file.ensures.puts)
+    (rw c.as_str-path.ensures.path at c.put_file.ensures.puts)
 
 pub returns-in_err-begin_write-clause-no_name : goal.returns-in_err-begin_write-clause-no_name
 returns-in_err-begin_write-clause-no_name g c = c.begin_write.ensures.no_name
@@ -137,5 +140,7 @@ returns-clause-why g c =
     let at = c.set_next.ensures.path ∙ c.in_ok-begin_write.ensures.path.1 ∙ ap (λ root. path_of (string_bytes root) c.args.name.now) c.begin_write.ensures.adds.0 in
     IfErr-weaker c.put_file.result _ _
     (λ error fails. inr (write_not_put (string_bytes c.args.self.now.root) c.args.name.now _ _ _ _ _ (steps_then (steps_then (begins_grow _ _ _ _ _ _ _ c.begin_write.ensures.begins) (no_step c.set_next.ensures.calls)) (prepares_grow _ _ _ _ _ c.make_folders.ensures.calls)) _
-    (c.as_str-2.ensures.path ∙ c.in_ok-set_next.ensures.next ∙ ap (λ (path : List ℕ). folder_of path ++ codes ".cvkit-next") (sym c.set_next.ensures.path ∙ at)) fails))
+    (made_so (string_bytes c.args.self.now.root) c.args.name.now c.set_next.new.self.next c.set_next.new.self.path c.made_at-at.result.now
+    (c.in_ok-set_next.ensures.next ∙ ap (λ (path : List ℕ). folder_of path ++ codes ".cvkit-next") (sym c.set_next.ensures.path ∙ at)) at
+    (rw (c.as_str-path.ensures.path, c.as_str-2.ensures.path) at c.made_at-at.ensures)) fails))
     c.put_file.ensures.fails

@@ -5,7 +5,7 @@ use Rattle.cv_system.specs.Calls.{cause_of, Log, Failed, Created, Removed}
 use Rattle.cv_system.specs.Steps.{Tries}
 use Rattle.std.proofs.lemmas.Result.{IfErr-weaker}
 use Rattle.cv_system.proofs.Laws.{fails_now, fails_then, one_call, one_fails}
-use Rattle.cv_folder.proofs.putting.create_next.Goals as goal
+use Rattle.cv_folder.proofs.putting.create_anew.Goals as goal
 
 pub returns-in-Err-clause-calls : goal.returns-in-Err-clause-calls
 returns-in-Err-clause-calls g c =
