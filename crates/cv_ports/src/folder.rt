@@ -1,12 +1,15 @@
 //! Where a folder of changes stands.
 ghost use Rattle.std.specs.Prelude.{◌≡◌, ℕ, List, Option, Some, IfOk, OnOk, OnErr, IsErrOf, is_some, length, ◌≤◌};
+ghost use Rattle.sha1.specs.Sha1.{sha1};
 ghost use Rattle.cv_base.specs.Counts.{HasCause};
+ghost use Rattle.cv_base.specs.ObjectId.{object_id};
 ghost use Rattle.cv_base.specs.Told.{WhereTold};
+ghost use Rattle.cv_base.specs.declared.id.Kind.TheVariants.{Plain};
 ghost use Rattle.cv_ports.specs.Folder.{FolderView, Folders, Ascend, IsOrdered, read_front};
 ghost use Rattle.cv_ports.specs.declared.folder.FolderFault.TheVariants as fault;
 ghost use Rattle.cv_ports.specs.declared.folder.TheConstants.{FOLDER_READ_LIMIT};
 
-use cv_base::{Bytes, Items, NoMemory, OBJECT_LIMIT, RepoPath, Text};
+use cv_base::{Items, NoMemory, OBJECT_LIMIT, Object, RepoPath, Text};
 use std::alloc::Global;
 
 /// The most bytes that are read of a file: one more than an object may have, so that a longer file shows.
@@ -119,10 +122,12 @@ pub trait Folder {
         ensures lasts { holds self.new ≡ holds self.old }
         ensures cause { HasCause (faults self.old) (faults self.new) (IsErrOf result fault.Failed) };
 
-    /// The content of the file at a path, of which it gives at most the first `FOLDER_READ_LIMIT` bytes.
-    fn read(&mut self, alloc: Global, path: &RepoPath) -> Result<Bytes, FolderFault>
-        ensures told { WhereTold (folder self.old) (λ holds. IfOk result (λ bytes. bytes ≡ read_front (holds.content path.now))) }
-        ensures limit { IfOk result (λ bytes. length bytes ≤ FOLDER_READ_LIMIT) }
+    /// The content of the file at a path, of which it gives at most the first `FOLDER_READ_LIMIT` bytes, under the id that they
+    /// have. The folder makes the id, since it may hash in other threads than the caller's.
+    fn read(&mut self, alloc: Global, path: &RepoPath) -> Result<Object, FolderFault>
+        ensures told { WhereTold (folder self.old) (λ holds. IfOk result (λ object. object.bytes ≡ read_front (holds.content path.now))) }
+        ensures limit { IfOk result (λ object. length object.bytes ≤ FOLDER_READ_LIMIT) }
+        ensures named { IfOk result (λ object. object.id ≡ object_id (sha1 object.bytes) Plain) }
         ensures unchanged { folder self.new ≡ folder self.old }
         ensures stays { named self.new ≡ named self.old }
         ensures lasts { holds self.new ≡ holds self.old }

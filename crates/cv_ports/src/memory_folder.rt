@@ -1,9 +1,12 @@
 //! A folder in memory.
 ghost use Rattle.std.specs.Prelude.{◌≡◌, ◌≤◌, ◌↔◌, [], length, unwrap_or, None, Some, IfOk, IfSome, IsSome, IsErrOf, IsTrue, OnOk, OnErr, is_some, option_copied};
 ghost use Rattle.std.specs.FinMap.{find};
+ghost use Rattle.sha1.specs.Sha1.{sha1};
 ghost use Rattle.cv_base.specs.Counts.{HasCause};
+ghost use Rattle.cv_base.specs.ObjectId.{object_id};
 ghost use Rattle.cv_base.specs.Path.{path_cmp};
 ghost use Rattle.cv_base.specs.Told.{WhereTold};
+ghost use Rattle.cv_base.specs.declared.id.Kind.TheVariants.{Plain};
 ghost use Rattle.cv_ports.specs.Calls.{fails, called};
 ghost use Rattle.cv_ports.specs.Folder.{Ascend, IsOrdered, read_front};
 ghost use Rattle.cv_ports.specs.MemoryFolder.{AllAscend, holding, under_each};
@@ -14,7 +17,7 @@ ghost use Rattle.cv_ports.specs.declared.folder.TheConstants.{FOLDER_READ_LIMIT}
 use crate::ascending::ascend;
 use crate::failing_calls::FailingCalls;
 use crate::folder::{FOLDER_READ_LIMIT, Folder, FolderFault, FolderItem};
-use cv_base::{Bytes, Items, NoMemory, RepoPath, Text};
+use cv_base::{Bytes, Items, Kind, NoMemory, Object, ObjectId, RepoPath, Text};
 use std::alloc::Global;
 use std::marker::Model;
 
@@ -178,9 +181,10 @@ impl Folder for MemoryFolder {
         Ok(items)
     }
 
-    fn read(&mut self, alloc: Global, path: &RepoPath) -> Result<Bytes, FolderFault>
-        ensures told { WhereTold (Some (holding self.old)) (λ holds. IfOk result (λ bytes. bytes ≡ read_front (holds.content path.now))) }
-        ensures limit { IfOk result (λ bytes. length bytes ≤ FOLDER_READ_LIMIT) }
+    fn read(&mut self, alloc: Global, path: &RepoPath) -> Result<Object, FolderFault>
+        ensures told { WhereTold (Some (holding self.old)) (λ holds. IfOk result (λ object. object.bytes ≡ read_front (holds.content path.now))) }
+        ensures limit { IfOk result (λ object. length object.bytes ≤ FOLDER_READ_LIMIT) }
+        ensures named { IfOk result (λ object. object.id ≡ object_id (sha1 object.bytes) Plain) }
         ensures unchanged { Some (holding self.new) ≡ Some (holding self.old) }
         ensures stays { self.new.named ≡ self.old.named }
         ensures lasts { Some (under_each self.new) ≡ Some (under_each self.old) }
@@ -192,6 +196,7 @@ impl Folder for MemoryFolder {
             return Err(FolderFault::Failed);
         }
         let bytes = content(alloc, &self.files, path)?;
-        Ok(bytes)
+        let id = ObjectId::of(Kind::Plain, bytes.as_slice());
+        Ok(Object { id, bytes })
     }
 }

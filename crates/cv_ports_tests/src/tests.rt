@@ -257,7 +257,7 @@ fn listed<F: Folder>(alloc: Global, folder: &mut F) -> Result<usize, FolderFault
 // Whether the file at `/b` has this content.
 fn has<F: Folder>(alloc: Global, folder: &mut F, content: &[u8]) -> Result<bool, Fail> {
     let found = folder.read(alloc, &RepoPath::read(alloc, "/b")?)?;
-    Ok(found.as_slice() == content)
+    Ok(found.bytes.as_slice() == content)
 }
 
 #[test]
