@@ -17,7 +17,7 @@ ghost use Rattle.cv_overlay.specs.FoundInner.{with_node, with_file, kept_content
 use crate::changes::Changes;
 use crate::contents::Contents;
 use crate::whiteout::is_whiteout;
-use cv_base::{Attr, Bytes, Kind, NoMemory, Object, ObjectId, RepoPath};
+use cv_base::{Attr, NoMemory, Object, RepoPath};
 use cv_tree::{FileRef, Node, Tree};
 use std::alloc::Global;
 use std::marker::Model;
@@ -106,30 +106,30 @@ impl Found {
         })
     }
 
-    /// One file more. The content of a whiteout is not kept.
+    /// One file more, of which the id is given. The content of a whiteout is not kept.
     #[tactic(auto, using(crate::proofs::Objects::file_added))]
     pub(crate) fn with_file(
         self,
         path: &RepoPath,
         attr: Attr,
-        bytes: Bytes,
+        object: Object,
     ) -> Result<Found, NoMemory>
         requires attr { IsAttr attr }
-        requires size { length bytes ≤ OBJECT_LIMIT }
-        requires sum { self.sum + length bytes ≤ SUM_LIMIT }
-        ensures { IfOk result (λ made. made ≡ with_file self path.now attr bytes) }
+        requires named { object.id ≡ object_id (sha1 object.bytes) Plain }
+        requires size { length object.bytes ≤ OBJECT_LIMIT }
+        requires sum { self.sum + length object.bytes ≤ SUM_LIMIT }
+        ensures { IfOk result (λ made. made ≡ with_file self path.now attr object.bytes) }
     {
         let Found {
             tree,
             contents,
             sum,
         } = self;
-        let id = ObjectId::of(Kind::Plain, bytes.as_slice());
-        let size = bytes.as_slice().len() as u64;
-        let hash = id.hash;
+        let size = object.bytes.as_slice().len() as u64;
+        let hash = object.id.hash;
         let content = FileRef { hash, size };
         let tree = inserted(tree, path, Node::File(attr, content))?;
-        let contents = with_content(contents, path, Object { id, bytes })?;
+        let contents = with_content(contents, path, object)?;
         Ok(Found {
             tree,
             contents,

@@ -90,12 +90,12 @@ fn visit_file<F: Folder>(
     ensures cause { HasCause (F.faults folder.old) (F.faults folder.new) (IsErrOf result faults.Failed) }
     ensures within { IsWithin path found result }
 {
-    let bytes = folder.read(alloc, &path)?;
-    let size = bytes.as_slice().len() as u64;
+    let object = folder.read(alloc, &path)?;
+    let size = object.bytes.as_slice().len() as u64;
     if is_large(size, found.sum() + size) {
         return Err(ReadFault::TooLarge(path));
     }
-    let found = found.with_file(&path, attr, bytes)?;
+    let found = found.with_file(&path, attr, object)?;
     Ok(found)
 }
 
