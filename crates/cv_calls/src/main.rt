@@ -188,9 +188,9 @@ fn items_at<R: Host>(rt: &R, root: &str, path: &str) -> Option<Items<FolderItem>
 fn content_at<R: Host>(rt: &R, root: &str, path: &str) -> Option<Bytes> {
     let mut folder = SystemFolder::new(*rt);
     folder.root(rt.alloc(), root).ok()?;
-    folder
-        .read(rt.alloc(), &RepoPath::read(rt.alloc(), path).ok()?)
-        .ok()
+    let path = RepoPath::read(rt.alloc(), path).ok()?;
+    let object = folder.read(rt.alloc(), &path).ok()?;
+    Some(object.bytes)
 }
 
 fn mark_of(kind: &FoundKind) -> &'static str {

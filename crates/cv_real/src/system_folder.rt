@@ -1,19 +1,22 @@
 //! A folder of changes over a real folder.
 ghost use Rattle.std.specs.Prelude.{◌≡◌, ◌≤◌, ◌↔◌, ◌++◌, [], ◌∷◌, length, IfOk, IfSome, IsOk, IsSome, None, string_bytes};
 ghost use Rattle.std.specs.IoError.{error_kind, raw_os_error};
+ghost use Rattle.sha1.specs.Sha1.{sha1};
 ghost use Rattle.cv_base.specs.Counts.{HasCause};
+ghost use Rattle.cv_base.specs.ObjectId.{object_id};
+ghost use Rattle.cv_base.specs.declared.id.Kind.TheVariants.{Plain};
 ghost use Rattle.cv_ports.specs.Folder.{Ascend};
 ghost use Rattle.cv_ports.specs.declared.folder.FolderFault.TheVariants.{Failed, NoMemory};
 ghost use Rattle.cv_ports.specs.declared.folder.TheConstants.{FOLDER_READ_LIMIT};
 ghost use Rattle.cv_real.specs.ListingInner.{below};
 
 use crate::count::FaultCount;
-use crate::front::read_front;
+use crate::front::front_at;
 use crate::listing::items_of;
 use crate::system_calls::SystemCalls;
-use cv_base::{Bytes, Items, PathName, RepoPath, Text};
+use cv_base::{Items, Object, PathName, RepoPath, Text};
 use cv_ports::{FOLDER_READ_LIMIT, Folder, FolderFault, FolderItem};
-use cv_system::looks::{find_file, has_folders, is_memory};
+use cv_system::looks::{has_folders, is_memory};
 use std::alloc::Global;
 use std::fs::File;
 use std::io;
@@ -98,8 +101,9 @@ impl<R: Files<File = File> + AllocGlobal + Threads + Clone + Drop> SystemFolder<
         items_of(self.system.rt(), alloc, folder.as_str())
     }
 
-    fn read_now(&mut self, alloc: Global, path: &RepoPath) -> io::Result<Vec<u8>>
-        ensures length { IfOk result (λ bytes. length bytes.items ≤ FOLDER_READ_LIMIT) }
+    fn read_now(&mut self, alloc: Global, path: &RepoPath) -> io::Result<Object>
+        ensures named { IfOk result (λ object. object.id ≡ object_id (sha1 object.bytes) Plain) }
+        ensures length { IfOk result (λ object. length object.bytes ≤ FOLDER_READ_LIMIT) }
         ensures name { self.new.name ≡ self.old.name }
         ensures faults { self.new.faults ≡ self.old.faults }
     {
@@ -109,13 +113,8 @@ impl<R: Files<File = File> + AllocGlobal + Threads + Clone + Drop> SystemFolder<
         let root = self.root_now(alloc)?;
         let mut file = folder_path(alloc, root.as_str(), above)?;
         file.push_str(last.as_str())?;
-        match find_file(&mut self.system, file.as_str(), root.len())? {
-            Some(found) => {
-                let system = &mut self.system;
-                read_front(system, alloc, file.as_str(), &found, FOLDER_READ_LIMIT)
-            }
-            None => Err(io::Error::from(ErrorKind::NotFound)),
-        }
+        let system = &mut self.system;
+        front_at(system, alloc, file.as_str(), root.len(), FOLDER_READ_LIMIT)
     }
 
     /// Want of memory, or one more fault.
@@ -159,9 +158,9 @@ impl<R: Files<File = File> + AllocGlobal + Threads + Clone + Drop> Folder for Sy
         }
     }
 
-    fn read(&mut self, alloc: Global, path: &RepoPath) -> Result<Bytes, FolderFault> {
+    fn read(&mut self, alloc: Global, path: &RepoPath) -> Result<Object, FolderFault> {
         match self.read_now(alloc, path) {
-            Ok(bytes) => Ok(Bytes::new(bytes)),
+            Ok(object) => Ok(object),
             Err(error) => Err(self.fault_of(&error)),
         }
     }

@@ -87,7 +87,7 @@ fn listed<F: Folder>(alloc: Global, folder: &mut F, path: &RepoPath) -> Result<S
 // What a read of a path gives, as a text.
 fn content<F: Folder>(alloc: Global, folder: &mut F, path: &RepoPath) -> Result<String, Fail> {
     match folder.read(alloc, path) {
-        Ok(bytes) => Ok(String::from_utf8(bytes.into_vec())?),
+        Ok(object) => Ok(String::from_utf8(object.bytes.into_vec())?),
         Err(fault) => Ok(String::from_str(alloc, word(fault))?),
     }
 }
@@ -186,7 +186,7 @@ fn mode_and_time<F: Folder>(
 // How many bytes are read of the file at a path.
 fn length_read<F: Folder>(alloc: Global, folder: &mut F, path: &str) -> Result<usize, Fail> {
     let path = RepoPath::read(alloc, path)?;
-    Ok(folder.read(alloc, &path)?.as_slice().len())
+    Ok(folder.read(alloc, &path)?.bytes.as_slice().len())
 }
 
 const STAMPS: [(&str, u32, u64); 2] = [("file", 0o4750, 1_000_000_007), ("a..b", 0o600, 0)];
