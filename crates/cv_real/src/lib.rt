@@ -1,6 +1,7 @@
 //! The outside as the system gives it: thin adapters that tell nothing of content.
 #![tactic(auto)]
 
+mod ahead;
 mod begun;
 mod clock;
 mod count;

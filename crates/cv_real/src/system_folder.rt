@@ -10,13 +10,14 @@ ghost use Rattle.cv_ports.specs.declared.folder.FolderFault.TheVariants.{Failed,
 ghost use Rattle.cv_ports.specs.declared.folder.TheConstants.{FOLDER_READ_LIMIT};
 ghost use Rattle.cv_real.specs.ListingInner.{below};
 
+use crate::ahead::ReadAhead;
 use crate::count::FaultCount;
-use crate::front::front_at;
+use crate::front::{named, read_front};
 use crate::listing::items_of;
 use crate::system_calls::SystemCalls;
 use cv_base::{Items, Object, PathName, RepoPath, Text};
 use cv_ports::{FOLDER_READ_LIMIT, Folder, FolderFault, FolderItem};
-use cv_system::looks::{has_folders, is_memory};
+use cv_system::looks::{find_file, has_folders, is_memory};
 use std::alloc::Global;
 use std::fs::File;
 use std::io;
@@ -31,6 +32,9 @@ use std::thread::Threads;
 /// folder or file can't be read; and where no folder was named. A listing fails where a name or the text of a link isn't
 /// UTF-8. Of a mode it gives the twelve permission bits, and of a time the whole seconds, or 0 before 1970.
 ///
+/// Behind a listing threads read the small files of the directory ahead, as `ReadAhead` says. A file that couldn't be read so is
+/// read when it is asked for, so each fault is of the call that asked.
+///
 /// Nobody else may change the folder meanwhile. A file that took another's place is not read, but a pipe that takes one's
 /// place in the moment in which it is opened blocks the call.
 #[derive(Drop)]
@@ -39,6 +43,7 @@ pub struct SystemFolder<R: Files<File = File> + AllocGlobal + Threads + Clone + 
     /// The folder's path as it was given, once one was.
     name: Option<Text>,
     faults: FaultCount,
+    ahead: ReadAhead<R>,
 }
 
 /// The path of the folder of this name, with a slash at its end.
@@ -69,10 +74,12 @@ impl<R: Files<File = File> + AllocGlobal + Threads + Clone + Drop> SystemFolder<
         ensures name { result.name ≡ None }
         ensures runtime { result.system.rt ≡ rt }
     {
+        let ahead = ReadAhead::new(rt.alloc());
         SystemFolder {
             system: SystemCalls::new(rt),
             name: None,
             faults: FaultCount::new(),
+            ahead,
         }
     }
 
@@ -98,7 +105,11 @@ impl<R: Files<File = File> + AllocGlobal + Threads + Clone + Drop> SystemFolder<
         if !has_folders(&mut self.system, folder.as_str(), root.len())? {
             return Err(io::Error::from(ErrorKind::NotADirectory));
         }
-        items_of(self.system.rt(), alloc, folder.as_str())
+        let items = items_of(self.system.rt(), alloc, folder.as_str())?;
+        let from = root.len();
+        self.ahead
+            .begin(&mut self.system, folder, from, items.as_slice());
+        Ok(items)
     }
 
     fn read_now(&mut self, alloc: Global, path: &RepoPath) -> io::Result<Object>
@@ -112,9 +123,18 @@ impl<R: Files<File = File> + AllocGlobal + Threads + Clone + Drop> SystemFolder<
         };
         let root = self.root_now(alloc)?;
         let mut file = folder_path(alloc, root.as_str(), above)?;
-        file.push_str(last.as_str())?;
         let system = &mut self.system;
-        front_at(system, alloc, file.as_str(), root.len(), FOLDER_READ_LIMIT)
+        if let Some(object) = self.ahead.take(system, file.as_str(), last.as_str()) {
+            return Ok(object);
+        }
+        file.push_str(last.as_str())?;
+        match find_file(system, file.as_str(), root.len())? {
+            Some(found) => {
+                let bytes = read_front(system, alloc, file.as_str(), &found, FOLDER_READ_LIMIT)?;
+                Ok(named(bytes))
+            }
+            None => Err(io::Error::from(ErrorKind::NotFound)),
+        }
     }
 
     /// Want of memory, or one more fault.
@@ -143,6 +163,7 @@ impl<R: Files<File = File> + AllocGlobal + Threads + Clone + Drop> Folder for Sy
 
     /// Takes the name alone: what stands there is looked at by the later calls. The empty name fails.
     fn root(&mut self, alloc: Global, name: &str) -> Result<(), FolderFault> {
+        self.ahead.forget();
         if name.is_empty() {
             self.faults.raise();
             return Err(FolderFault::Failed);
