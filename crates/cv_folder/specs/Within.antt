@@ -1,4 +1,4 @@
--- What the calls of a vault change: only what has the path of its folder or one that begins with it, and a write gives no name but to a whole file.
+-- What the calls of a vault change: only what has the path of its folder or one that begins with it, and a write gives another name to a whole file alone.
 use Rattle.std.specs.Prelude.{◌≡◌, ◌⊎◌, ℕ, List, [], ◌∷◌, ⊤}
 use Rattle.cv_system.specs.Calls.{Begun, Call, Checked, Created, Done, Ended, Entered, Failed, Locked, Log, Looked, Made, Named, Opened, Read, Removed, Renamed, Synced, Unmade, Wrote, and_call, and_calls}
 use Rattle.cv_system.specs.Steps.{Makes, Steps}

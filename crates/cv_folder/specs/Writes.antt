@@ -31,7 +31,7 @@ named_by name at path = if is_way name then Begun at ∷ [] else (Synced at ∷ 
 abbrev pub put : List ℕ → List ℕ → List ℕ → List ℕ → List (Outcome → Call)
 put name at path bytes = Wrote at bytes ∷ named_by name at path
 
--- a whole file was put under a name, or it wasn't: then the file that was made for it was removed, if it could be
+-- a whole file was put under a name, or it wasn't: then what stood where its file is made was removed, if it could be
 unfoldable pub Puts : List ℕ → List ℕ → List ℕ → List ℕ → Bool → Log → Log → Type 0
 Puts name at path bytes true before after = TriesAnew at (put name at path bytes) true before after
 Puts name at path bytes false before after =

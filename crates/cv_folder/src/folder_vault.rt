@@ -34,10 +34,10 @@ use std::alloc::{AllocError, Global};
 /// and the sync of its bytes is begun: what stood there is gone where that fails, and a crash before the next sync is done may
 /// leave a part of the bytes under the way, or others, as of each name that was written since the last one. A way that is
 /// renamed by then leaves that to its new name, which no later process makes durable. A sync ends the syncs that were begun,
-/// and then makes the folders durable that changed since the last one. The first sync of a process makes all durable that a process before it may have left in the system's
-/// memory: each regular file that stands at a way, the folder above the vault's, the vault's own and each one below it. It
-/// passes over a folder that this process may not read only where it may look nothing up in it: each call of a name there
-/// fails too. Where the system lost what was written to a file or a folder it says so once, so each later sync fails until the
+/// and then makes the folders durable that changed since the last one. The first sync of a process makes all durable that a
+/// process before it may have left in the system's memory: each regular file that stands at a way, the folder above the vault's,
+/// the vault's own and each one below it. It passes over a folder that this process may not read only where it may look
+/// nothing up in it: each call of a name there fails too. Where the system lost what was written to a file or a folder it says so once, so each later sync fails until the
 /// process ends. The constructor takes the memory that a sync wants, however many folders there are: no sync takes any.
 ///
 /// One vault at a time holds a folder, by the system's lock on it. Over a network the lock keeps out the vaults of the same

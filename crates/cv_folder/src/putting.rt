@@ -11,7 +11,7 @@ use cv_system::{Seen, System, is_way};
 use std::io;
 use std::io::ErrorKind;
 
-/// A new file in place of what an earlier process left at this path.
+/// A new file in place of what an earlier write left at this path.
 fn create_again<S: System>(system: &mut S, path: &str) -> io::Result<S::File>
     ensures calls { Tries (Removed path.now ∷ Created path.now ∷ []) (is_ok result)
         (S.log system.old) (S.log system.new) }
@@ -83,8 +83,8 @@ fn put_new<S: System>(
     give_name(system, file, name, at, path)
 }
 
-/// Makes a new file with these bytes at a path, and gives it to the name whose path is the other. Where that fails the file
-/// goes again.
+/// Makes a new file with these bytes at a path, and gives it to the name whose path is the other. Where that fails what stands
+/// at the first path goes, also where no new file could be made.
 pub fn put_file<S: System>(
     system: &mut S,
     at: &str,
