@@ -1,5 +1,5 @@
 -- A write and a sync of a vault over a folder, put together.
-use Rattle.std.proofs.Common.{◌||◌, ◌≡◌, ◌∙◌, ◌+◌, ◌++◌, ◌∷◌, [], Bool, true, false, List, ℕ, length, map, Result, Ok, Err, refl, sym, ap, subst, inl, inr, string_bytes, codes, arith}
+use Rattle.std.proofs.Common.{◌||◌, ◌≡◌, ◌+◌, ◌∷◌, [], Bool, true, false, List, ℕ, length, map, Result, Ok, Err, refl, sym, subst, inl, inr, string_bytes, arith}
 use Rattle.std.specs.Prelude.{◌⊎◌, IsOk, IsTrue, OnOk, is_ok}
 use Rattle.cv_folder.specs.declared.folder_vault.FolderVault.{FolderVault}
 use Rattle.cv_folder.specs.declared.hold.Hold.{Hold}
@@ -9,7 +9,7 @@ use Rattle.cv_system.specs.declared.seen.Seen.{Seen}
 use Rattle.cv_folder.specs.FolderVault.{Acts, AsksAlone, HoldsFirst, IsUncalled}
 use Rattle.cv_folder.specs.FolderVaultInner.{MovesOn}
 use Rattle.cv_folder.specs.Hold.{Begins, IsHeld, MakesRoot, is_unasked}
-use Rattle.cv_system.specs.Names.{folder_of, is_name, next_of, path_of}
+use Rattle.cv_system.specs.Names.{folder_of, is_name, path_of}
 use Rattle.cv_system.specs.Steps.{Tries}
 use Rattle.cv_system.specs.Syncs.{syncs}
 use Rattle.cv_system.specs.Walks.{SettlesAll}

@@ -3,11 +3,11 @@ use Rattle.std.proofs.Common.{◌≡◌, ◌∷◌, [], Bool, true, false, List,
 use Rattle.std.specs.Prelude.{◌⊎◌, ⊤}
 use Rattle.std.specs.declared.io.Error.{Error}
 use Rattle.cv_system.specs.declared.seen.Seen.{Seen}
-use Rattle.cv_system.specs.Calls.{Cause, Call, Created, Done, Failed, Locked, Log, Looked, Made, Opened, Outcome, Removed, Unmade, and_call}
+use Rattle.cv_system.specs.Calls.{Cause, Done, Failed, Locked, Log, Looked, Made, Opened, Unmade, and_call}
 use Rattle.cv_system.specs.Looks.{SeesFolders}
 use Rattle.cv_base.specs.Path.{with_slash}
 use Rattle.cv_system.specs.Names.{path_of}
-use Rattle.cv_system.specs.Steps.{EndsFailed, Grows, Still, Then, Tries}
+use Rattle.cv_system.specs.Steps.{EndsFailed, Grows, Still, Then}
 use Rattle.cv_system.proofs.Laws.{fails_now, fails_then, grows, no_step, one_call, steps_then}
 use Rattle.cv_folder.proofs.Anew.{anew_makes}
 use Rattle.cv_folder.specs.declared.folder_vault.FolderVault.{FolderVault}

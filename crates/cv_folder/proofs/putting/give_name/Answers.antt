@@ -1,6 +1,6 @@
 use Rattle.std.proofs.lemmas.Result.{err_from_is_err_and, IfErr-at_err, IfErr-weaker}
-use Rattle.std.proofs.Common.{◌≡◌, ◌∙◌, [], ◌∷◌, refl, sym}
-use Rattle.cv_system.specs.Calls.{Begun, Log, Renamed, Synced, and_call, outcome}
+use Rattle.std.proofs.Common.{◌∙◌, [], ◌∷◌, refl, sym}
+use Rattle.cv_system.specs.Calls.{Begun, Renamed, Synced}
 use Rattle.cv_system.proofs.Laws.{call_at, failed_so, fails_then, made_then, one_call, one_fails, tried_one}
 use Rattle.cv_folder.proofs.Naming.{named_beside, named_on_way}
 use Rattle.cv_folder.proofs.putting.give_name.Goals as goal
