@@ -4,7 +4,6 @@ mod Held
 mod Missing
 mod Objects
 mod Orders
-mod Payloads
 mod Publishing
 mod Replying
 mod Served

@@ -8,7 +8,6 @@ use Rattle.std.proofs.lemmas.Option.{slice_get_cases}
 use Rattle.cv_base.specs.declared.id.ObjectId.{ObjectId}
 use Rattle.cv_base.specs.declared.object.Object.{Object}
 use Rattle.cv_pack.specs.Pack.{contents_size, has_room, ids, IsPacked}
-use Rattle.cv_pack.specs.Reading.{object}
 use Rattle.cv_pack.specs.declared.add_fault.AddFault.{AddFault}
 use Rattle.cv_pack.proofs.Laws.{size_more}
 use Rattle.cv_publisher.specs.Packing.{AreSendable, IsFront, objects_at}
@@ -221,9 +220,8 @@ added_ok : (r : Result (Unit {0}) AddFault) (P : Type 0) → is_err r ≡ false 
 added_ok (Ok done) P is holds = holds
 added_ok (Err fault) P is holds = absurd cc
 
-pub filled_more : (all : List Object) (ps : List ℕ) (i : ℕ) (o : Object) (bytes : List ℕ) (old new : List Object) (r : Result (Unit {0}) AddFault) → i < length ps
-    → slice_get all (get_or ps i 0) ≡ Some o → bytes ≡ o.bytes → old ≡ objects_at all (take i ps) → is_err r ≡ false → OnOk r (new ≡ old ++ object o.id bytes ∷ [])
+pub filled_more : (all : List Object) (ps : List ℕ) (i : ℕ) (o : Object) (old new : List Object) (r : Result (Unit {0}) AddFault) → i < length ps
+    → slice_get all (get_or ps i 0) ≡ Some o → old ≡ objects_at all (take i ps) → is_err r ≡ false → OnOk r (new ≡ old ++ o ∷ [])
     → new ≡ objects_at all (take (i + 1) ps)
-filled_more all ps i o bytes old new r within is same before ok adds =
-    added_ok r (new ≡ old ++ object o.id bytes ∷ []) ok adds ∙ ap (λ (os : List Object). os ++ object o.id bytes ∷ []) before
-    ∙ ap (λ (b : List ℕ). objects_at all (take i ps) ++ object o.id b ∷ []) same ∙ sym (objects_more all ps i o within is)
+filled_more all ps i o old new r within is before ok adds =
+    added_ok r (new ≡ old ++ o ∷ []) ok adds ∙ ap (λ (os : List Object). os ++ o ∷ []) before ∙ sym (objects_more all ps i o within is)

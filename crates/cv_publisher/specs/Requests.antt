@@ -56,10 +56,13 @@ object_request plan id = file_request plan (file_name id)
 
 -- ---- payloads
 
--- it says the digest and the length of the pack's header
+-- it says the digest and the length of a header
+abbrev pub message_of_header : Token → List ℕ → List ℕ
+message_of_header token header = compact_text (payload_ask_data (record { token = token_text token; digest = sha1 header; header_size = length header }))
+
+-- of the pack's header
 abbrev pub payload_message : Token → List Object → List ℕ
-payload_message token pack =
-    compact_text (payload_ask_data (record { token = token_text token; digest = sha1 (header_bytes pack); header_size = length (header_bytes pack) }))
+payload_message token pack = message_of_header token (header_bytes pack)
 
 -- the message is signed; the pack follows it
 abbrev pub payload_request : List Key → Plan → Token → List Object → Outgoing

@@ -1,20 +1,10 @@
 //! Packs that are filled.
 ghost use Rattle.std.specs.Prelude.{◌≡◌, ◌≢◌, ◌≤◌, ◌<◌, ◌+◌, ◌++◌, [], Some, IfOk, length, slice_get, take, drop};
-ghost use Rattle.cv_pack.specs.Pack.{contents_size};
 ghost use Rattle.cv_publisher.specs.Packing.{AreSendable, IsFront, objects_at};
 
 use cv_base::{NoMemory, OBJECT_LIMIT, Object};
 use cv_pack::{COUNT_LIMIT, PackWriter, TOTAL_LIMIT};
 use std::alloc::Global;
-
-/// The front of objects that one pack takes.
-#[derive(Drop)]
-pub(crate) struct Front {
-    /// How many they are.
-    pub count: usize,
-    /// How many bytes they have.
-    pub size: usize,
-}
 
 /// The object at a place: contents come first, and catalogues behind them.
 pub(crate) fn object_at<'a>(
@@ -32,15 +22,14 @@ pub(crate) fn object_at<'a>(
     }
 }
 
-/// The longest front of the objects at these places that one pack takes.
-pub(crate) fn front_of(contents: &[Object], catalogues: &[Object], left: &[usize]) -> Front
+/// How many objects the longest front of those at these places has that one pack takes.
+pub(crate) fn front_of(contents: &[Object], catalogues: &[Object], left: &[usize]) -> usize
     requires { AreSendable (contents.now ++ catalogues.now) left.now }
     ensures front { IsFront (objects_at (contents.now ++ catalogues.now) left.now)
-        (objects_at (contents.now ++ catalogues.now) (take result.count left.now))
-        (objects_at (contents.now ++ catalogues.now) (drop result.count left.now)) }
-    ensures within { result.count ≤ length left.now }
-    ensures some { left.now ≢ [] → 0 < result.count }
-    ensures size { result.size ≡ contents_size (objects_at (contents.now ++ catalogues.now) (take result.count left.now)) }
+        (objects_at (contents.now ++ catalogues.now) (take result left.now))
+        (objects_at (contents.now ++ catalogues.now) (drop result left.now)) }
+    ensures within { result ≤ length left.now }
+    ensures some { left.now ≢ [] → 0 < result }
 {
     let mut size = 0;
     for (count, place) in left.iter().enumerate() {
@@ -52,30 +41,26 @@ pub(crate) fn front_of(contents: &[Object], catalogues: &[Object], left: &[usize
             || length > OBJECT_LIMIT
             || size + length > TOTAL_LIMIT as usize
         {
-            return Front { count, size };
+            return count;
         }
         size += length;
     }
-    Front {
-        count: left.len(),
-        size,
-    }
+    left.len()
 }
 
 /// A pack of the objects at these places.
-pub(crate) fn filled(
+pub(crate) fn filled<'a>(
     alloc: Global,
-    contents: &[Object],
-    catalogues: &[Object],
+    contents: &'a [Object],
+    catalogues: &'a [Object],
     places: &[usize],
-) -> Result<PackWriter, NoMemory>
+) -> Result<PackWriter<'a>, NoMemory>
     requires { AreSendable (contents.now ++ catalogues.now) places.now }
     ensures { IfOk result (λ writer. writer ≡ objects_at (contents.now ++ catalogues.now) places.now) }
 {
     let mut writer = PackWriter::new(alloc);
     for place in places {
-        let object = object_at(contents, catalogues, *place);
-        if writer.add(&object.id, object.bytes.as_slice()).is_err() {
+        if writer.add(object_at(contents, catalogues, *place)).is_err() {
             return Err(NoMemory);
         }
     }

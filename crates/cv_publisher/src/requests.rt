@@ -1,10 +1,10 @@
 //! The requests of a publisher.
-ghost use Rattle.std.specs.Prelude.{◌≡◌, ◌≢◌, ◌≤◌, ◌++◌, [], IfOk, length, string_bytes};
+ghost use Rattle.std.specs.Prelude.{◌≡◌, ◌≢◌, ◌++◌, [], IfOk, string_bytes};
 ghost use Rattle.cv_base.specs.Token.{token_text};
 ghost use Rattle.cv_messages.specs.Targets.{lease_target};
-ghost use Rattle.cv_pack.specs.Pack.{contents_size, pack_bytes};
+ghost use Rattle.cv_pack.specs.Pack.{contents};
 ghost use Rattle.cv_publisher.specs.Packing.{AreSendable, objects_at};
-ghost use Rattle.cv_publisher.specs.Requests.{SendsFront, cancel_request, commit_message, commit_request, file_request, lease_message, lease_request, manifest_request, object_request, payload_message, payload_request, signature};
+ghost use Rattle.cv_publisher.specs.Requests.{SendsFront, cancel_request, commit_message, commit_request, file_request, lease_message, lease_request, manifest_request, object_request, message_of_header, payload_request, signature};
 
 use crate::filling::{filled, front_of};
 use crate::plan::Plan;
@@ -13,6 +13,7 @@ use cv_http::{Outgoing, Verb, request_for_file};
 use cv_keys::KeyTable;
 use cv_manifest::MANIFEST_NAME;
 use cv_messages::{CommitAsk, LEASE, LEASES, LeaseAsk, PAYLOADS, PayloadAsk};
+use cv_pack::PackWriter;
 use sha1::Sha1;
 use std::alloc::Global;
 
@@ -81,17 +82,10 @@ pub(crate) fn object_request(
     file_request(alloc, plan, file.as_str())
 }
 
-/// The message of a payload, by its pack and the bytes of the contents in it.
-fn payload_message(
-    alloc: Global,
-    token: Token,
-    pack: &[u8],
-    size: usize,
-) -> Result<Vec<u8>, NoMemory>
-    requires { size ≤ length pack.now }
-    ensures { (os : _) → pack.now ≡ pack_bytes os → size ≡ contents_size os → IfOk result (λ message. message.items ≡ payload_message token os) }
+/// The message of a payload, by the header of its pack.
+fn payload_message(alloc: Global, token: Token, header: &[u8]) -> Result<Vec<u8>, NoMemory>
+    ensures { IfOk result (λ message. message.items ≡ message_of_header token header.now) }
 {
-    let (header, _) = pack.split_at(pack.len() - size);
     let ask = PayloadAsk {
         token: Text::new(token.text(alloc)?),
         digest: Sha1::digest(header),
@@ -100,29 +94,38 @@ fn payload_message(
     ask.write(alloc)
 }
 
-/// The request that sends a pack, in which the contents have so many bytes.
+/// A message with a pack behind it, whose header this is.
+fn payload_body(message: Vec<u8>, header: &[u8], pack: &PackWriter) -> Result<Bytes, NoMemory>
+    ensures { IfOk result (λ body. body ≡ message.items ++ header.now ++ contents pack.now) }
+{
+    let mut body = message;
+    body.reserve(header.len() + pack.contents_size())?;
+    body.extend_from_slice(header)?;
+    pack.append_contents(&mut body)?;
+    Ok(Bytes::new(body))
+}
+
+/// The request that sends a pack.
 fn pack_request(
     alloc: Global,
     keys: &KeyTable,
     plan: &Plan,
     token: Token,
-    pack: &[u8],
-    size: usize,
+    pack: &PackWriter,
 ) -> Result<Outgoing, NoMemory>
-    requires { size ≤ length pack.now }
-    ensures { (os : _) → pack.now ≡ pack_bytes os → size ≡ contents_size os → IfOk result (λ request. request ≡ payload_request keys.now plan.now token os) }
+    ensures { IfOk result (λ request. request ≡ payload_request keys.now plan.now token pack.now) }
 {
-    let mut body = payload_message(alloc, token, pack, size)?;
-    let authorization = signature(alloc, keys, &body)?;
-    let message_size = body.len() as u64;
-    body.extend_from_slice(pack)?;
+    let header = pack.header()?;
+    let message = payload_message(alloc, token, &header)?;
+    let authorization = signature(alloc, keys, &message)?;
+    let message_size = message.len() as u64;
     Ok(Outgoing {
         method: Verb::Post,
         host: plan.host.copy(alloc)?,
         target: Text::from_str(alloc, PAYLOADS)?,
         authorization,
         message_size: Some(message_size),
-        body: Bytes::new(body),
+        body: payload_body(message, &header, pack)?,
     })
 }
 
@@ -140,10 +143,10 @@ pub(crate) fn payload_request(
     ensures { IfOk result (SendsFront keys.now plan.now token (objects_at (plan.now.changes.objects ++ catalogues.now) left.now)) }
 {
     let contents = plan.changes.objects();
-    let front = front_of(contents, catalogues, left);
-    let (places, _) = left.split_at(front.count);
-    let pack = filled(alloc, contents, catalogues, places)?.finish()?;
-    pack_request(alloc, keys, plan, token, pack.as_slice(), front.size)
+    let count = front_of(contents, catalogues, left);
+    let (places, _) = left.split_at(count);
+    let pack = filled(alloc, contents, catalogues, places)?;
+    pack_request(alloc, keys, plan, token, &pack)
 }
 
 /// The target of a lease.

@@ -128,8 +128,8 @@ fn after_payload(
     ensures held { IsHeld plan.now result }
 {
     let contents = plan.changes.objects();
-    let front = front_of(contents, catalogues.as_slice(), left.as_slice());
-    let rest = behind(left, front.count);
+    let count = front_of(contents, catalogues.as_slice(), left.as_slice());
+    let rest = behind(left, count);
     match answer_in(alloc, reply) {
         Ok(answer) => behind_payload(offer, catalogues, rest, answer),
         Err(NoMemory) => Stage::Cancelling {

@@ -29,12 +29,12 @@ said_by reply plan offer catalogues contents xs left ps rest n answer next whole
 pub returns-in-Ok-clause-after : goal.returns-in-Ok-clause-after
 returns-in-Ok-clause-after c =
     said_by c.args.reply.now c.args.plan.now c.args.offer c.args.catalogues c.objects-contents.result.now c.as_slice.result.now c.args.left c.as_slice-2.result.now c.behind-rest.result.items
-    c.front_of-front.result.count c.in-Ok.answer c.behind_payload.result c.objects-contents.ensures.value c.as_slice.ensures c.as_slice-2.ensures c.requires c.front_of-front.ensures.front
-    c.front_of-front.ensures.some c.behind-rest.ensures c.in-Ok.ensures c.behind_payload.ensures
+    c.front_of-count.result c.in-Ok.answer c.behind_payload.result c.objects-contents.ensures.value c.as_slice.ensures c.as_slice-2.ensures c.requires c.front_of-count.ensures.front
+    c.front_of-count.ensures.some c.behind-rest.ensures c.in-Ok.ensures c.behind_payload.ensures
 
 pub returns-in-Ok-clause-held : goal.returns-in-Ok-clause-held
 returns-in-Ok-clause-held c =
     subst (IsHeld c.args.plan.now) (sym c.behind_payload.ensures)
     (held_payload c.args.plan.now c.args.offer c.args.catalogues c.behind-rest.result.items c.in-Ok.answer
     (subst (AreSendable (c.args.plan.now.changes.objects ++ c.args.catalogues)) (sym c.behind-rest.ensures)
-    (sendable_drop (c.args.plan.now.changes.objects ++ c.args.catalogues) c.front_of-front.result.count c.args.left c.requires.sendable)))
+    (sendable_drop (c.args.plan.now.changes.objects ++ c.args.catalogues) c.front_of-count.result c.args.left c.requires.sendable)))
