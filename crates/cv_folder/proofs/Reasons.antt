@@ -19,7 +19,7 @@ use Rattle.cv_folder.specs.declared.hold.Hold.{Hold}
 use Rattle.cv_folder.specs.declared.hold.Hold.TheVariants.{Refused}
 use Rattle.cv_folder.specs.Causes.{FailsBy, FailsOnWay, FailsToMove, FailsToRead, FailsToWrite, IsRefused, WantsMemory}
 use Rattle.cv_folder.specs.FolderVault.{Acts}
-use Rattle.cv_folder.specs.FolderVaultInner.{FailsToMake, FailsToMoveOn, FindsNamed, MakesHeld, RemovesOwn}
+use Rattle.cv_folder.specs.FolderVaultInner.{FailsToMake, FailsToMoveOn, FailsOrRemoves, FindsNamed, MakesHeld}
 use Rattle.cv_folder.specs.Reads.{HasFile}
 use Rattle.cv_folder.specs.Writes.{made_at}
 
@@ -141,9 +141,10 @@ module _ {F : Type 0} (root name : List ℕ) (hold : Hold F) (cause : Cause) (be
   write_no_way fails = inr (inl (way_then cause before between after made fails))
 
   -- or where the file isn't put
-  pub write_not_put : (place : List ℕ) → place ≡ made_at root name → RemovesOwn place cause between after → FailsToWrite root name hold cause before after
-  unfolding FailsToWrite
-  write_not_put place at (failed, gone, fails, is) =
+  pub write_not_put : (place : List ℕ) → place ≡ made_at root name → FailsOrRemoves place cause between after → FailsToWrite root name hold cause before after
+  unfolding FailsToWrite FailsOnWay
+  write_not_put place at (inl fails) = inr (inl (inl (fails_then made fails)))
+  write_not_put place at (inr (failed, gone, fails, is)) =
       inr (inr (failed, gone, fails_then made fails, inl (subst (λ (n : List ℕ). after ≡ and_call (Removed n gone) failed) at is)))
 
 -- a name isn't served, or the path of the own file is too long

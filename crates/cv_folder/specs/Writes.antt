@@ -31,11 +31,12 @@ named_by name at path = if is_way name then Begun at ∷ [] else (Synced at ∷ 
 abbrev pub put : List ℕ → List ℕ → List ℕ → List ℕ → List (Outcome → Call)
 put name at path bytes = Wrote at bytes ∷ named_by name at path
 
--- a whole file was put under a name, or it wasn't: then what stood where its file is made was removed, if it could be
+-- a whole file was put under a name, or it wasn't: none could be created, or it was, a call behind that failed, and then it was removed, if it could be
 unfoldable pub Puts : List ℕ → List ℕ → List ℕ → List ℕ → Bool → Log → Log → Type 0
 Puts name at path bytes true before after = TriesAnew at (put name at path bytes) true before after
 Puts name at path bytes false before after =
-    (tried : Log) × (gone : Outcome) × TriesAnew at (put name at path bytes) false before tried × (after ≡ and_call (Removed at gone) tried)
+    TriesAnew at [] false before after
+    ⊎ ((made tried : Log) × (gone : Outcome) × TriesAnew at [] true before made × Tries (put name at path bytes) false made tried × (after ≡ and_call (Removed at gone) tried))
 
 -- a folder on the way of a path, past its first bytes
 abbrev pub IsOnWay : ℕ → List ℕ → List ℕ → Type 0

@@ -2,7 +2,7 @@
 ghost use Rattle.std.specs.Prelude.{◌≡◌, [], ◌∷◌, IfErr, IfOk, IsSome, if◌then◌else◌, is_ok};
 ghost use Rattle.cv_system.specs.Calls.{Created, Removed, cause_of};
 ghost use Rattle.cv_system.specs.Names.{is_way};
-ghost use Rattle.cv_folder.specs.FolderVaultInner.{LooksForOther, RemovesOwn};
+ghost use Rattle.cv_folder.specs.FolderVaultInner.{FailsOrRemoves, LooksForOther};
 ghost use Rattle.cv_system.specs.Steps.{EndsFailed, Tries};
 ghost use Rattle.cv_folder.specs.Writes.{MovesFile, Puts, TriesAnew, named_by, put};
 
@@ -65,26 +65,28 @@ fn give_name<S: System>(
     system.rename(at, path)
 }
 
-/// Makes a new file with these bytes at a path, and gives it to the name whose path is the other.
-fn put_new<S: System>(
+/// Writes these bytes to the new file at a path, and gives it to the name whose path is the other.
+fn fill<S: System>(
     system: &mut S,
+    file: S::File,
     at: &str,
     name: &str,
     path: &str,
     bytes: &[u8],
 ) -> io::Result<()>
-    ensures tries { TriesAnew at.now (put name.now at.now path.now bytes.now) (is_ok result)
+    requires { IsSome (S.log system.old) → S.place file ≡ at.now }
+    ensures tries { Tries (put name.now at.now path.now bytes.now) (is_ok result)
         (S.log system.old) (S.log system.new) }
     ensures fails { IfErr result (λ error. EndsFailed (cause_of error) (S.log system.old)
         (S.log system.new)) }
 {
-    let mut file = create_anew(system, at)?;
+    let mut file = file;
     system.write_all(&mut file, bytes)?;
     give_name(system, file, name, at, path)
 }
 
-/// Makes a new file with these bytes at a path, and gives it to the name whose path is the other. Where that fails what stands
-/// at the first path goes, also where no new file could be made.
+/// Makes a new file with these bytes at a path, and gives it to the name whose path is the other. Where that fails the file that
+/// was made goes; where none could be made nothing more is called.
 pub fn put_file<S: System>(
     system: &mut S,
     at: &str,
@@ -94,10 +96,11 @@ pub fn put_file<S: System>(
 ) -> io::Result<()>
     ensures puts { Puts name.now at.now path.now bytes.now (is_ok result)
         (S.log system.old) (S.log system.new) }
-    ensures fails { IfErr result (λ error. RemovesOwn at.now (cause_of error)
+    ensures fails { IfErr result (λ error. FailsOrRemoves at.now (cause_of error)
         (S.log system.old) (S.log system.new)) }
 {
-    match put_new(system, at, name, path, bytes) {
+    let file = create_anew(system, at)?;
+    match fill(system, file, at, name, path, bytes) {
         Ok(()) => Ok(()),
         Err(error) => {
             let _ = system.remove_file(at);
