@@ -131,9 +131,9 @@ module _ (root : List ℕ) where
     puts_within : (done : Bool) (before after : Log) → Puts name (made_at root name) (path_of root name) bytes done before after → StaysWithin root before after
     unfolding Puts
     puts_within true before after anew = anew_within (made_at root name) made_within true before after anew
-    puts_within false before after (inl none) = anew_within (made_at root name) made_within false before after (not_anew (made_at root name) _ before after none)
-    puts_within false before after (inr (made, tried, gone, anew, put, is)) =
-        Then (anew_within (made_at root name) made_within false before tried (anew_then (made_at root name) _ false before made tried anew put)) (Removed (made_at root name) gone, made_within, is)
+    puts_within false before after (inl none) = anew_within (made_at root name) made_within false before after (not_anew (made_at root name) (put name (made_at root name) (path_of root name) bytes) before after none)
+    puts_within false before after (inr (made, tried, gone, anew, tries, is)) =
+        Then (anew_within (made_at root name) made_within false before tried (anew_then (made_at root name) (put name (made_at root name) (path_of root name) bytes) false before made tried anew tries)) (Removed (made_at root name) gone, made_within, is)
 
     -- a way gets no other name
     way_names : (all : Bool) (before after : Log) → TriesAnew (path_of root name) (Wrote (path_of root name) bytes ∷ Begun (path_of root name) ∷ []) all before after
@@ -178,9 +178,9 @@ module _ (root : List ℕ) where
     puts_names : (done : Bool) (before after : Log) → Puts name (made_at root name) (path_of root name) bytes done before after → NamesWhole (next_of root name) (path_of root name) bytes before after
     unfolding Puts
     puts_names true before after anew = anew_names (is_way name) refl true before after anew
-    puts_names false before after (inl none) = anew_names (is_way name) refl false before after (not_anew (made_at root name) _ before after none)
-    puts_names false before after (inr (made, tried, gone, anew, put, is)) =
-        Then (anew_names (is_way name) refl false before tried (anew_then (made_at root name) _ false before made tried anew put)) (inl (Removed (made_at root name) gone, tt, is))
+    puts_names false before after (inl none) = anew_names (is_way name) refl false before after (not_anew (made_at root name) (put name (made_at root name) (path_of root name) bytes) before after none)
+    puts_names false before after (inr (made, tried, gone, anew, tries, is)) =
+        Then (anew_names (is_way name) refl false before tried (anew_then (made_at root name) (put name (made_at root name) (path_of root name) bytes) false before made tried anew tries)) (inl (Removed (made_at root name) gone, tt, is))
 
     module _ {F : Type 0} (was hold : Hold F) (is_unsettled : Bool) (noted : List ℕ → Bool) (done : Bool) (before after : Log) where
       pub writes_within : WritesFile root name bytes was hold is_unsettled noted done before after → StaysWithin root before after

@@ -30,15 +30,16 @@ use std::alloc::{AllocError, Global};
 /// follows or removes one, but a write or a rename takes the place of one at its last part. It tells nothing of content.
 ///
 /// A write makes a new file beside the name, makes its bytes durable and then gives it the name, so that a name has whole
-/// files at all times, and a file that others have under another name isn't changed. Only a way is made anew at its own path,
-/// and the sync of its bytes is begun: what stood there is gone where that fails, and a crash before the next sync is done may
-/// leave a part of the bytes under the way, or others, as of each name that was written since the last one. A way that is
-/// renamed by then leaves that to its new name, which no later process makes durable. A sync ends the syncs that were begun,
-/// and then makes the folders durable that changed since the last one. The first sync of a process makes all durable that a
-/// process before it may have left in the system's memory: each regular file that stands at a way, the folder above the vault's,
-/// the vault's own and each one below it. It passes over a folder that this process may not read only where it may look
-/// nothing up in it: each call of a name there fails too. Where the system lost what was written to a file or a folder it says so once, so each later sync fails until the
-/// process ends. The constructor takes the memory that a sync wants, however many folders there are: no sync takes any.
+/// files at all times, and a file that others have under another name isn't changed. Only a way is made anew at its own
+/// path, and the sync of its bytes is begun: what stood there is gone once a file is made, also where the write fails behind
+/// that, and a crash before the next sync is done may leave a part of the bytes under the way, or others, as of each name
+/// that was written since the last one. A way that is renamed by then leaves that to its new name, which no later process
+/// makes durable. A sync ends the syncs that were begun, and then makes the folders durable that changed since the last one.
+/// The first sync of a process makes all durable that a process before it may have left in the system's memory: each regular
+/// file that stands at a way, the folder above the vault's, the vault's own and each one below it. It passes over a folder
+/// that this process may not read only where it may look nothing up in it: each call of a name there fails too. Where the
+/// system lost what was written to a file or a folder it says so once, so each later sync fails until the process ends. The
+/// constructor takes the memory that a sync wants, however many folders there are: no sync takes any.
 ///
 /// One vault at a time holds a folder, by the system's lock on it. Over a network the lock keeps out the vaults of the same
 /// machine alone. Nobody else may change the folder meanwhile.

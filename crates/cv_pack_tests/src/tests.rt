@@ -1,4 +1,4 @@
-use cv_base::{Bytes, Kind, NoMemory, ObjectId};
+use cv_base::{Bytes, Kind, NoMemory, Object, ObjectId};
 use cv_pack::{AddFault, Pack, PackFault, PackReader, PackWriter};
 use std::alloc::Global;
 use std::test::*;
@@ -256,60 +256,69 @@ fn shows_each_fault(rt: HostRuntime) -> Result<(), Fail> {
     Ok(())
 }
 
-/// What adding these bytes as content answers. None where an object of their id is there already.
-fn add(writer: &mut PackWriter, bytes: &[u8]) -> Option<Result<(), AddFault>> {
-    let id = ObjectId::of(Kind::Plain, bytes);
-    if writer.has(&id) {
+/// An object of these bytes.
+fn object_of(alloc: Global, kind: Kind, bytes: &[u8]) -> Result<Object, NoMemory> {
+    Ok(Object {
+        id: ObjectId::of(kind, bytes),
+        bytes: Bytes::from_slice(alloc, bytes)?,
+    })
+}
+
+/// What adding an object answers. None where one of its id is there already.
+fn add<'a>(writer: &mut PackWriter<'a>, object: &'a Object) -> Option<Result<(), AddFault>> {
+    let id = ObjectId::of(object.id.kind, object.bytes.as_slice());
+    if id != object.id || id.kind == Kind::History || writer.has(&object.id) {
         return None;
     }
-    Some(writer.add(&id, bytes))
+    Some(writer.add(object))
 }
 
-/// The same of a catalogue.
-fn add_catalogue(writer: &mut PackWriter, bytes: &[u8]) -> Option<Result<(), AddFault>> {
-    let id = ObjectId::of(Kind::Catalogue, bytes);
-    if writer.has(&id) {
-        return None;
-    }
-    Some(writer.add(&id, bytes))
-}
-
-/// What a writer gives in the end.
-fn finish_writing(writer: PackWriter) -> Result<Bytes, NoMemory> {
-    writer.finish()
-}
-
-/// The pack that is written of the two objects, if both are added.
-fn written(alloc: Global) -> Result<Option<Bytes>, Fail> {
+/// The pack that is written of the two objects, if both are added, and how many bytes its contents have.
+fn written(alloc: Global) -> Result<Option<(Vec<u8>, usize)>, Fail> {
+    let hello = object_of(alloc, Kind::Plain, HELLO)?;
+    let catalogue = object_of(alloc, Kind::Catalogue, &CATALOGUE)?;
     let mut writer = PackWriter::new(alloc);
-    let first = add(&mut writer, HELLO);
-    let second = add_catalogue(&mut writer, &CATALOGUE);
+    let first = add(&mut writer, &hello);
+    let second = add(&mut writer, &catalogue);
     if first != Some(Ok(())) || second != Some(Ok(())) {
         return Ok(None);
     }
-    Ok(Some(finish_writing(writer)?))
+    let mut bytes = writer.header()?;
+    writer.append_contents(&mut bytes)?;
+    Ok(Some((bytes, writer.contents_size())))
 }
 
 #[test]
 fn writes_two_objects(rt: HostRuntime) -> Result<(), Fail> {
     let expected = two_objects(rt.alloc(), HELLO)?;
-    let bytes = written(rt.alloc())?.ok_or("not added")?;
+    let (bytes, size) = written(rt.alloc())?.ok_or("not added")?;
     assert_eq!(rt; bytes.as_slice(), expected.as_slice());
+    assert_eq!(rt; size, 177);
     Ok(())
 }
 
+/// Objects of the numbers below this one.
+fn numbered(alloc: Global, count: u32) -> Result<Vec<Object>, NoMemory> {
+    let mut objects = Vec::new(alloc);
+    for number in 0..count {
+        objects.push(object_of(alloc, Kind::Plain, &number.to_be_bytes())?)?;
+    }
+    Ok(objects)
+}
+
 #[test]
-fn is_full_at_10_000_objects(rt: HostRuntime) {
+fn is_full_at_10_000_objects(rt: HostRuntime) -> Result<(), Fail> {
+    let objects = numbered(rt.alloc(), 10_001)?;
     let mut writer = PackWriter::new(rt.alloc());
-    for number in 0..10_001u32 {
+    for (number, object) in objects.iter().enumerate() {
         let expected = if number < 10_000 {
             Ok(())
         } else {
             Err(AddFault::Full)
         };
-        let bytes = number.to_be_bytes();
-        assert_eq!(rt; add(&mut writer, &bytes), Some(expected));
+        assert_eq!(rt; add(&mut writer, object), Some(expected));
     }
+    Ok(())
 }
 
 /// A value, how many bytes of it are added, and what that answers.
@@ -321,12 +330,22 @@ static ADDS: [(u8, usize, Result<(), AddFault>); 5] = [
     (2, 0, Ok(())),
 ];
 
+/// An object for each line of the table.
+fn objects_to_add(alloc: Global) -> Result<Vec<Object>, NoMemory> {
+    let mut objects = Vec::new(alloc);
+    for (byte, size, _) in &ADDS {
+        let bytes = vec![in alloc; *byte; *size]?;
+        objects.push(object_of(alloc, Kind::Plain, &bytes)?)?;
+    }
+    Ok(objects)
+}
+
 #[test]
 fn is_full_at_the_limits_of_size(rt: HostRuntime) -> Result<(), Fail> {
+    let objects = objects_to_add(rt.alloc())?;
     let mut writer = PackWriter::new(rt.alloc());
-    for (byte, size, expected) in &ADDS {
-        let bytes = vec![in rt.alloc(); *byte; *size]?;
-        assert_eq!(rt; add(&mut writer, &bytes), Some(*expected));
+    for (object, (_, _, expected)) in objects.iter().zip(&ADDS) {
+        assert_eq!(rt; add(&mut writer, object), Some(*expected));
     }
     Ok(())
 }
