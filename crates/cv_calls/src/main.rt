@@ -10,14 +10,17 @@
 //! also=ROOT             opens a second vault, over ROOT, and reads `file` there
 //! items=FOLDER>PATH     lists a directory of a folder of changes: each name with `/`, `=`, `>` or `!` for what it is
 //! content=FOLDER>PATH   reads a file of a folder of changes, and prints how many bytes it gives
+//! root=FOLDER           names the folder of changes of the next two calls, which is one from the first call to the last
+//! dir=PATH              lists a directory of it, as `items`, whose files are then read ahead
+//! file=PATH             reads a file of it, and prints the hash of the bytes it gives
 //! memory=COUNT          writes COUNT names into a vault in memory and syncs, lists ten, changes one and syncs, and prints
 //!                       the nanoseconds of the three
 //! ```
 #![tactic(auto)]
 
-use cv_base::{Bytes, Items, RepoPath};
+use cv_base::{Items, Object, RepoPath};
 use cv_folder::FolderVault;
-use cv_ports::{Folder, FolderItem, FoundKind};
+use cv_ports::{Folder, FolderFault, FolderItem, FoundKind};
 use cv_real::{SystemCalls, SystemFolder, program_words};
 use cv_vault::{MemoryVault, Vault, VaultFault};
 use std::alloc::AllocError;
@@ -176,21 +179,38 @@ fn print_names<R: Host>(rt: &R, vault: &mut Vaulted<R>, prefix: &str) -> io::Res
 }
 
 /// The items of a directory of a folder of changes.
-fn items_at<R: Host>(rt: &R, root: &str, path: &str) -> Option<Items<FolderItem>> {
-    let mut folder = SystemFolder::new(*rt);
-    folder.root(rt.alloc(), root).ok()?;
+fn items_of<R: Host>(
+    rt: &R,
+    folder: &mut SystemFolder<R>,
+    path: &str,
+) -> Option<Items<FolderItem>> {
     folder
         .list(rt.alloc(), &RepoPath::read(rt.alloc(), path).ok()?)
         .ok()
 }
 
-/// The content of a file of a folder of changes.
-fn content_at<R: Host>(rt: &R, root: &str, path: &str) -> Option<Bytes> {
+/// What a file of a folder of changes has.
+fn object_of<R: Host>(rt: &R, folder: &mut SystemFolder<R>, path: &str) -> Option<Object> {
+    folder
+        .read(rt.alloc(), &RepoPath::read(rt.alloc(), path).ok()?)
+        .ok()
+}
+
+/// A folder of changes that nothing was asked of.
+fn folder_at<R: Host>(rt: &R, root: &str) -> Option<SystemFolder<R>> {
     let mut folder = SystemFolder::new(*rt);
     folder.root(rt.alloc(), root).ok()?;
-    let path = RepoPath::read(rt.alloc(), path).ok()?;
-    let object = folder.read(rt.alloc(), &path).ok()?;
-    Some(object.bytes)
+    Some(folder)
+}
+
+/// The items of a directory of the folder of changes at a path.
+fn items_at<R: Host>(rt: &R, root: &str, path: &str) -> Option<Items<FolderItem>> {
+    items_of(rt, &mut folder_at(rt, root)?, path)
+}
+
+/// What a file of the folder of changes at a path has.
+fn object_at<R: Host>(rt: &R, root: &str, path: &str) -> Option<Object> {
+    object_of(rt, &mut folder_at(rt, root)?, path)
 }
 
 fn mark_of(kind: &FoundKind) -> &'static str {
@@ -202,8 +222,8 @@ fn mark_of(kind: &FoundKind) -> &'static str {
     }
 }
 
-fn print_items<R: Host>(rt: &R, root: &str, path: &str) -> io::Result<()> {
-    let Some(items) = items_at(rt, root, path) else {
+fn print_items<R: Host>(rt: &R, items: Option<Items<FolderItem>>) -> io::Result<()> {
+    let Some(items) = items else {
         return println!(rt; "failed");
     };
     print!(rt; "items")?;
@@ -215,13 +235,31 @@ fn print_items<R: Host>(rt: &R, root: &str, path: &str) -> io::Result<()> {
     println!(rt; "")
 }
 
-fn print_content<R: Host>(rt: &R, root: &str, path: &str) -> io::Result<()> {
-    match content_at(rt, root, path) {
-        Some(bytes) => {
-            let length = bytes.as_slice().len();
+fn print_length<R: Host>(rt: &R, object: Option<Object>) -> io::Result<()> {
+    match object {
+        Some(object) => {
+            let length = object.bytes.as_slice().len();
             println!(rt; "{length}")
         }
         None => println!(rt; "failed"),
+    }
+}
+
+fn print_hash<R: Host>(rt: &R, object: Option<Object>) -> io::Result<()> {
+    match object {
+        Some(object) => {
+            let hash = object.id.text(rt.alloc())?;
+            println!(rt; "{hash}")
+        }
+        None => println!(rt; "failed"),
+    }
+}
+
+fn named_answer(answer: Result<(), FolderFault>) -> Answer {
+    match answer {
+        Ok(()) => Answer::Done,
+        Err(FolderFault::Failed) => Answer::Failed,
+        Err(FolderFault::NoMemory) => Answer::NoMemory,
     }
 }
 
@@ -272,10 +310,10 @@ fn make_call<R: Host>(
         return print_names(rt, vault, name);
     }
     if call == "items" {
-        return print_items(rt, name, other);
+        return print_items(rt, items_at(rt, name, other));
     }
     if call == "content" {
-        return print_content(rt, name, other);
+        return print_length(rt, object_at(rt, name, other));
     }
     if call == "memory" {
         return print_times(rt, name);
@@ -284,16 +322,36 @@ fn make_call<R: Host>(
     println!(rt; "{word}")
 }
 
+/// Makes a call of the folder of changes that stays the same. Whether it is one.
+fn made_of_folder<R: Host>(
+    rt: &R,
+    folder: &mut SystemFolder<R>,
+    call: &str,
+    name: &str,
+) -> io::Result<bool> {
+    match call {
+        "root" => {
+            let word = word_of(named_answer(folder.root(rt.alloc(), name)));
+            println!(rt; "{word}")?;
+        }
+        "dir" => print_items(rt, items_of(rt, folder, name))?,
+        "file" => print_hash(rt, object_of(rt, folder, name))?,
+        _ => return Ok(false),
+    }
+    Ok(true)
+}
+
 fn make_calls<R: Host>(rt: &R, words: &Vec<String>) -> io::Result<()> {
     let root = words.first().map_or("srv", |word| word.as_str());
     let mut vault = vault_at(rt, root)?;
+    let mut folder = SystemFolder::new(*rt);
     for word in words.iter().skip(1) {
         let word = word.as_str();
         let (call, names) = word.split_once('=').unwrap_or((word, ""));
         let (name, other) = names.split_once('>').unwrap_or((names, ""));
         if call == "at" {
             vault = vault_at(rt, name)?;
-        } else {
+        } else if !made_of_folder(rt, &mut folder, call, name)? {
             make_call(rt, &mut vault, call, name, other)?;
         }
     }

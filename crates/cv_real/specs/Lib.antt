@@ -1,2 +1,3 @@
+pub mod AheadInner
 pub mod ListingInner
 pub mod SeenInner

@@ -1,8 +1,9 @@
 //! Files that threads read ahead, while the program goes on.
-ghost use Rattle.std.specs.Prelude.{◌≡◌, ◌≤◌, [], length, IfSome};
+ghost use Rattle.std.specs.Prelude.{◌≡◌, ◌≢◌, ◌↔◌, ◌<◌, ◌≤◌, [], All, length, string_bytes, IfOk, IfSome, IsSome, IsTrue};
 ghost use Rattle.sha1.specs.Sha1.{sha1};
 ghost use Rattle.cv_base.specs.ObjectId.{object_id};
 ghost use Rattle.cv_base.specs.declared.id.Kind.TheVariants.{Plain};
+ghost use Rattle.cv_real.specs.AheadInner.{InnermostIs, NothingHeld, TakesNext, folders, held, names};
 ghost use Rattle.cv_real.specs.declared.ahead.TheConstants.{SMALL_LIMIT, THREAD_LIMIT};
 
 use crate::front::{front_of, named};
@@ -16,7 +17,8 @@ use std::fs::File;
 use std::marker::Model;
 use std::mem;
 use std::rt::Files;
-use std::thread::{JoinHandle, Threads, spawn};
+use std::snapshot::Snapshot;
+use std::thread::{Promise, PromisedHandle, Threads, spawn_with};
 
 /// How many files a thread reads, one after another.
 pub const GROUP_SIZE: usize = 16;
@@ -67,6 +69,7 @@ impl SmallFile {
 
     /// The object.
     fn into_object(self) -> Object
+        ensures object { result ≡ self }
         ensures named { result.id ≡ object_id (sha1 result.bytes) Plain }
         ensures limit { length result.bytes ≤ SMALL_LIMIT }
     {
@@ -83,7 +86,7 @@ struct Opened {
 
 /// A file of a directory: opened for a thread, and then what the thread has read of it, if it could.
 #[derive(Drop)]
-struct FileAhead {
+pub struct FileAhead {
     name: Text,
     opened: Option<Opened>,
     read: Option<SmallFile>,
@@ -91,12 +94,23 @@ struct FileAhead {
 
 impl FileAhead {
     /// The file of this name, which isn't opened yet.
-    fn new(name: Text) -> FileAhead {
+    fn new(name: Text) -> FileAhead
+        ensures { result.name ≡ name }
+    {
         FileAhead {
             name,
             opened: None,
             read: None,
         }
+    }
+
+    /// What was read of it, if it could be read and is small.
+    pub fn into_object(self) -> Option<Object>
+        ensures object { result ≡ self.read }
+        ensures named { IfSome result (λ object. object.id ≡ object_id (sha1 object.bytes) Plain) }
+        ensures limit { IfSome result (λ object. length object.bytes ≤ SMALL_LIMIT) }
+    {
+        Some(self.read?.into_object())
     }
 }
 
@@ -138,7 +152,10 @@ impl Directory {
         folder: String,
         from: usize,
         items: &[FolderItem],
-    ) -> Result<Directory, NoMemory> {
+    ) -> Result<Directory, NoMemory>
+        ensures folder { IfOk result (λ directory. directory.folder ≡ folder) }
+        ensures ready { IfOk result (λ directory. directory.ready.items ≡ []) }
+    {
         Ok(Directory {
             folder,
             from,
@@ -148,18 +165,23 @@ impl Directory {
     }
 
     /// Keeps files that were read. One for which there is no memory is read again.
-    fn keep(&mut self, files: Vec<FileAhead>) {
+    fn keep(&mut self, files: Vec<FileAhead>)
+        ensures { self.new.folder ≡ self.old.folder }
+    {
         for file in files {
             let _ = self.ready.push_back(file);
         }
     }
 
-    /// What was read of the file of this name, where it is the next one.
-    fn take(&mut self, name: &str) -> Option<SmallFile> {
+    /// The file of this name, where it is the next one that was read.
+    fn take(&mut self, name: &str) -> Option<FileAhead>
+        ensures next { TakesNext name.now result self.old.ready.items self.new.ready.items }
+        ensures folder { self.new.folder ≡ self.old.folder }
+    {
         if self.ready.front()?.name.as_str() != name {
             return None;
         }
-        self.ready.pop_front()?.read
+        self.ready.pop_front()
     }
 }
 
@@ -189,7 +211,9 @@ fn open_each<R: Files<File = File> + AllocGlobal + Threads + Drop>(
     folder: &str,
     from: usize,
     files: Vec<FileAhead>,
-) -> Vec<FileAhead> {
+) -> Vec<FileAhead>
+    ensures { names result.items ≡ names files.items }
+{
     let mut files = files;
     for file in files.iter_mut() {
         file.opened = open_small(system, folder, from, file.name.as_str());
@@ -204,7 +228,9 @@ fn read_small(alloc: Global, opened: Opened) -> Option<SmallFile> {
 }
 
 /// Reads each of these files that is open, and closes it.
-fn read_each(alloc: Global, files: Vec<FileAhead>) -> Vec<FileAhead> {
+fn read_each(alloc: Global, files: Vec<FileAhead>) -> Vec<FileAhead>
+    ensures { names result.items ≡ names files.items }
+{
     let mut files = files;
     for file in files.iter_mut() {
         if let Some(opened) = file.opened.take() {
@@ -214,10 +240,18 @@ fn read_each(alloc: Global, files: Vec<FileAhead>) -> Vec<FileAhead> {
     files
 }
 
+/// The files that a thread is given: it gives back files of the same names, each in its place.
+#[derive(Drop)]
+struct SameNames(Snapshot<Vec<FileAhead>>);
+
+impl Promise<Vec<FileAhead>> for SameNames {
+    ghost kept_by = { λ given files. names files.items ≡ names given.0.value.items };
+}
+
 /// A thread that reads a group of files. Where it is let go it is waited for.
 struct Reader<R: Threads + Drop> {
     rt: R,
-    thread: JoinHandle<Vec<FileAhead>>,
+    thread: PromisedHandle<Vec<FileAhead>, SameNames>,
 }
 
 impl<R: Threads + Drop> Drop for Reader<R> {
@@ -229,33 +263,41 @@ impl<R: Threads + Drop> Drop for Reader<R> {
 
 impl<R: Threads + Drop> Reader<R> {
     /// Waits for the files.
-    fn end(self) -> Vec<FileAhead> {
+    fn end(self) -> Vec<FileAhead>
+        ensures { names result.items ≡ names self.thread.promise.0.value.items }
+    {
         let Reader { rt, thread } = self;
         thread.join(&rt)
     }
 }
 
 impl<R: Files<File = File> + AllocGlobal + Threads + Clone + Drop> Reader<R> {
-    /// Opens these files of a directory, and has a thread read them. None where none can be started.
+    /// Opens these files of a directory, and has a thread read them. None where none can be started: then each of them is opened
+    /// once more, when it is asked for.
     fn start(
         system: &mut SystemCalls<R>,
         directory: &Directory,
         files: Vec<FileAhead>,
-    ) -> Option<Reader<R>> {
+    ) -> Option<Reader<R>>
+        ensures { IfSome result (λ reader. names reader.thread.promise.0.value.items
+            ≡ names files.items) }
+    {
         let rt = system.rt().clone().ok()?;
         let alloc = rt.alloc();
         let files = open_each(system, directory.folder.as_str(), directory.from, files);
-        let thread = spawn(&rt, move || read_each(alloc, files)).ok()?;
+        let given = SameNames(Snapshot::of(&files));
+        let thread = spawn_with(&rt, given, move || read_each(alloc, files)).ok()?;
         Some(Reader { rt, thread })
     }
 }
 
 /// The directories whose files are read ahead, each in the one before it, and the threads that read.
 ///
-/// The files of a group are opened before its thread is started, so no more than 64 are open. Of the innermost directory up to
-/// `THREAD_LIMIT` groups are at work, and the rest of one waits that was read; of each of the others as much was read, and waits. So
-/// beside the names of the directories' files no more than `DIRECTORY_LIMIT` times `THREAD_LIMIT + 1` groups of files of at most
-/// 64 KiB are kept, 30 MiB. Each thread is waited for in the end.
+/// The files of a group are opened before its thread is started, so no more than 64 that are read ahead are open. Of the innermost
+/// directory up to `THREAD_LIMIT` groups are at work, and the rest of one waits that was read; of each of the others as much was
+/// read, and waits. So beside a record of some hundred bytes for each file of these directories no more than `DIRECTORY_LIMIT`
+/// times `THREAD_LIMIT + 1` groups of files of at most 64 KiB are kept, 30 MiB. Where more directories than `DIRECTORY_LIMIT` are
+/// in one another the outermost is forgotten, and what wasn't read of it isn't read ahead. Each thread is waited for in the end.
 #[derive(Drop)]
 pub struct ReadAhead<R: Threads + Drop> {
     /// The innermost one is the last.
@@ -267,7 +309,8 @@ pub struct ReadAhead<R: Threads + Drop> {
 impl<R: Threads + Drop> ReadAhead<R> {
     /// Nothing is read ahead.
     pub fn new(alloc: Global) -> ReadAhead<R>
-        ensures { result.readers.items ≡ [] }
+        ensures readers { result.readers.items ≡ [] }
+        ensures directories { result.directories.items ≡ [] }
     {
         ReadAhead {
             directories: Vec::new(alloc),
@@ -277,7 +320,8 @@ impl<R: Threads + Drop> ReadAhead<R> {
 
     /// Forgets all that was begun.
     pub fn forget(&mut self)
-        ensures { self.new.readers.items ≡ [] }
+        ensures readers { self.new.readers.items ≡ [] }
+        ensures directories { self.new.directories.items ≡ [] }
     {
         self.readers.clear();
         self.directories.clear();
@@ -296,26 +340,45 @@ impl<R: Threads + Drop> ReadAhead<R> {
         }
     }
 
+    /// Forgets what was begun of a folder, and makes room for one more.
+    fn make_room(&mut self, folder: &str)
+        ensures readers { self.new.readers ≡ self.old.readers }
+        ensures others { All (λ directory. string_bytes directory.folder ≢ folder.now)
+            self.new.directories.items }
+    {
+        self.directories
+            .retain(|directory| directory.folder.as_str() != folder);
+        if self.directories.len() >= DIRECTORY_LIMIT {
+            let _ = self.directories.remove(0);
+        }
+    }
+
     /// Keeps files that were read of the innermost directory.
     fn keep(&mut self, files: Vec<FileAhead>)
-        ensures { self.new.readers ≡ self.old.readers }
+        ensures readers { self.new.readers ≡ self.old.readers }
+        ensures folders { folders self.new.directories.items ≡ folders self.old.directories.items }
     {
         if let Some(directory) = self.directories.last_mut() {
             directory.keep(files);
         }
     }
 
-    /// Waits for the threads that are at work, and keeps what they read.
-    fn end_all(&mut self)
-        ensures { self.new.readers.items ≡ [] }
+    /// Waits for the threads that are at work, and keeps what they read: then no file is open any more. Whether any was at work.
+    pub fn end_all(&mut self) -> bool
+        ensures readers { self.new.readers.items ≡ [] }
+        ensures worked { IsTrue result ↔ (0 < length self.old.readers.items) }
     {
+        let worked = !self.readers.is_empty();
         while let Some(reader) = self.readers.pop_front() {
             self.keep(reader.end());
         }
+        worked
     }
 
     /// Whether the innermost directory is this folder.
-    fn is_at(&self, folder: &str) -> bool {
+    fn is_at(&self, folder: &str) -> bool
+        ensures { IsTrue result → InnermostIs folder.now (folders self.now.directories.items) }
+    {
         match self.directories.last() {
             Some(directory) => directory.folder.as_str() == folder,
             None => false,
@@ -334,8 +397,9 @@ impl<R: Threads + Drop> ReadAhead<R> {
 impl<R: Files<File = File> + AllocGlobal + Threads + Clone + Drop> ReadAhead<R> {
     /// Has a thread read the next group of the innermost directory, if there is one, unless all threads are at work.
     fn start_next(&mut self, system: &mut SystemCalls<R>)
-        ensures { length self.old.readers.items ≤ THREAD_LIMIT
+        ensures threads { length self.old.readers.items ≤ THREAD_LIMIT
             → length self.new.readers.items ≤ THREAD_LIMIT }
+        ensures held { held self.new.directories.items ≡ held self.old.directories.items }
     {
         if self.readers.len() >= THREAD_LIMIT {
             return;
@@ -353,8 +417,9 @@ impl<R: Files<File = File> + AllocGlobal + Threads + Clone + Drop> ReadAhead<R> 
 
     /// Has threads read the next groups of the innermost directory.
     fn start_all(&mut self, system: &mut SystemCalls<R>)
-        ensures { length self.old.readers.items ≤ THREAD_LIMIT
+        ensures threads { length self.old.readers.items ≤ THREAD_LIMIT
             → length self.new.readers.items ≤ THREAD_LIMIT }
+        ensures held { held self.new.directories.items ≡ held self.old.directories.items }
     {
         for _ in 0..THREAD_LIMIT {
             self.start_next(system);
@@ -362,7 +427,7 @@ impl<R: Files<File = File> + AllocGlobal + Threads + Clone + Drop> ReadAhead<R> 
     }
 
     /// Begins to read the regular files among the items of a folder, whose path ends in a slash. The first `from` bytes of the
-    /// path aren't looked at. Where memory is wanting nothing is begun.
+    /// path aren't looked at. What was begun of this folder before is forgotten, and where memory is wanting nothing is begun.
     pub fn begin(
         &mut self,
         system: &mut SystemCalls<R>,
@@ -370,13 +435,12 @@ impl<R: Files<File = File> + AllocGlobal + Threads + Clone + Drop> ReadAhead<R> 
         from: usize,
         items: &[FolderItem],
     )
-        ensures { length self.new.readers.items ≤ THREAD_LIMIT }
+        ensures threads { length self.new.readers.items ≤ THREAD_LIMIT }
+        ensures anew { NothingHeld (string_bytes folder) (held self.new.directories.items) }
     {
         self.leave(folder.as_str());
-        self.end_all();
-        if self.directories.len() >= DIRECTORY_LIMIT {
-            let _ = self.directories.remove(0);
-        }
+        let _ = self.end_all();
+        self.make_room(folder.as_str());
         let Ok(directory) = Directory::new(system.rt().alloc(), folder, from, items) else {
             return;
         };
@@ -387,8 +451,9 @@ impl<R: Files<File = File> + AllocGlobal + Threads + Clone + Drop> ReadAhead<R> 
 
     /// Waits for the next group of the innermost directory where nothing is ready, and begins the one behind those at work.
     fn refill(&mut self, system: &mut SystemCalls<R>)
-        ensures { length self.old.readers.items ≤ THREAD_LIMIT
+        ensures threads { length self.old.readers.items ≤ THREAD_LIMIT
             → length self.new.readers.items ≤ THREAD_LIMIT }
+        ensures folders { folders self.new.directories.items ≡ folders self.old.directories.items }
     {
         if self.is_ready() {
             return;
@@ -400,11 +465,16 @@ impl<R: Files<File = File> + AllocGlobal + Threads + Clone + Drop> ReadAhead<R> 
         }
     }
 
-    /// What was read of the file of a name in a folder, whose path ends in a slash: where it is the next one of the innermost
-    /// directory, could be read, and is small.
-    pub fn take(&mut self, system: &mut SystemCalls<R>, folder: &str, name: &str) -> Option<Object>
-        ensures named { IfSome result (λ object. object.id ≡ object_id (sha1 object.bytes) Plain) }
-        ensures limit { IfSome result (λ object. length object.bytes ≤ SMALL_LIMIT) }
+    /// The file of a name in a folder, whose path ends in a slash: where it is the next one of the innermost directory.
+    pub fn take(
+        &mut self,
+        system: &mut SystemCalls<R>,
+        folder: &str,
+        name: &str,
+    ) -> Option<FileAhead>
+        ensures name { IfSome result (λ file. file.name ≡ name.now) }
+        ensures folder { IsSome result
+            → InnermostIs folder.now (folders self.new.directories.items) }
         ensures threads { length self.old.readers.items ≤ THREAD_LIMIT
             → length self.new.readers.items ≤ THREAD_LIMIT }
     {
@@ -413,7 +483,6 @@ impl<R: Files<File = File> + AllocGlobal + Threads + Clone + Drop> ReadAhead<R> 
             return None;
         }
         self.refill(system);
-        let file = self.directories.last_mut()?.take(name)?;
-        Some(file.into_object())
+        self.directories.last_mut()?.take(name)
     }
 }

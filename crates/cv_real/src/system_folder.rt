@@ -1,5 +1,5 @@
 //! A folder of changes over a real folder.
-ghost use Rattle.std.specs.Prelude.{◌≡◌, ◌≤◌, ◌↔◌, ◌++◌, [], ◌∷◌, length, IfOk, IfSome, IsOk, IsSome, None, string_bytes};
+ghost use Rattle.std.specs.Prelude.{◌≡◌, ◌≤◌, ◌↔◌, ◌++◌, [], ◌∷◌, length, IfOk, IfSome, IsOk, IsSome, OnErr, None, string_bytes};
 ghost use Rattle.std.specs.IoError.{error_kind, raw_os_error};
 ghost use Rattle.sha1.specs.Sha1.{sha1};
 ghost use Rattle.cv_base.specs.Counts.{HasCause};
@@ -10,7 +10,7 @@ ghost use Rattle.cv_ports.specs.declared.folder.FolderFault.TheVariants.{Failed,
 ghost use Rattle.cv_ports.specs.declared.folder.TheConstants.{FOLDER_READ_LIMIT};
 ghost use Rattle.cv_real.specs.ListingInner.{below};
 
-use crate::ahead::ReadAhead;
+use crate::ahead::{FileAhead, ReadAhead};
 use crate::count::FaultCount;
 use crate::front::{named, read_front};
 use crate::listing::items_of;
@@ -33,10 +33,12 @@ use std::thread::Threads;
 /// UTF-8. Of a mode it gives the twelve permission bits, and of a time the whole seconds, or 0 before 1970.
 ///
 /// Behind a listing threads read the small files of the directory ahead, as `ReadAhead` says. A file that couldn't be read so is
-/// read when it is asked for, so each fault is of the call that asked.
+/// read when it is asked for, so each fault is of the call that asked. And where that call fails while files are open for threads,
+/// it waits for these, which closes the files, and tries once more: so no fault is of the open files either.
 ///
 /// Nobody else may change the folder meanwhile. A file that took another's place is not read, but a pipe that takes one's
-/// place in the moment in which it is opened blocks the call.
+/// place in the moment in which it is opened blocks the call that opens it, which may be the listing, or the read of a file
+/// before it.
 #[derive(Drop)]
 pub struct SystemFolder<R: Files<File = File> + AllocGlobal + Threads + Clone + Drop> {
     system: SystemCalls<R>,
@@ -67,6 +69,38 @@ fn folder_path(alloc: Global, root: &str, names: &[PathName]) -> io::Result<Stri
     Ok(path)
 }
 
+/// The items of the directory at a path with a slash at its end. The first `from` bytes of the path aren't looked at.
+fn items_at<R: Files<File = File> + AllocGlobal + Threads + Clone + Drop>(
+    system: &mut SystemCalls<R>,
+    alloc: Global,
+    folder: &str,
+    from: usize,
+) -> io::Result<Items<FolderItem>>
+    ensures { IfOk result (λ items. Ascend items) }
+{
+    if !has_folders(system, folder, from)? {
+        return Err(io::Error::from(ErrorKind::NotADirectory));
+    }
+    items_of(system.rt(), alloc, folder)
+}
+
+/// The content of the file at a path. The first `from` bytes of the path aren't looked at.
+fn content_at<R: Files<File = File> + AllocGlobal + Threads + Drop>(
+    system: &mut SystemCalls<R>,
+    alloc: Global,
+    path: &str,
+    from: usize,
+) -> io::Result<Object>
+    ensures named { IfOk result (λ object. object.id ≡ object_id (sha1 object.bytes) Plain) }
+    ensures length { IfOk result (λ object. length object.bytes ≤ FOLDER_READ_LIMIT) }
+{
+    let Some(found) = find_file(system, path, from)? else {
+        return Err(io::Error::from(ErrorKind::NotFound));
+    };
+    let bytes = read_front(system, alloc, path, &found, FOLDER_READ_LIMIT)?;
+    Ok(named(bytes))
+}
+
 impl<R: Files<File = File> + AllocGlobal + Threads + Clone + Drop> SystemFolder<R> {
     /// A folder that isn't named yet: until then no path leads to anything.
     pub fn new(rt: R) -> SystemFolder<R>
@@ -95,6 +129,40 @@ impl<R: Files<File = File> + AllocGlobal + Threads + Clone + Drop> SystemFolder<
         }
     }
 
+    /// The items of the directory at a path, as `items_at`: where that fails, while no file is open for a thread.
+    fn items_apart(
+        &mut self,
+        alloc: Global,
+        folder: &str,
+        from: usize,
+    ) -> io::Result<Items<FolderItem>>
+        ensures ascend { IfOk result (λ items. Ascend items) }
+        ensures closed { OnErr result (self.new.ahead.readers.items ≡ []) }
+        ensures name { self.new.name ≡ self.old.name }
+        ensures faults { self.new.faults ≡ self.old.faults }
+    {
+        let items = items_at(&mut self.system, alloc, folder, from);
+        if items.is_err() && self.ahead.end_all() {
+            return items_at(&mut self.system, alloc, folder, from);
+        }
+        items
+    }
+
+    /// The content of the file at a path, as `content_at`: where that fails, while no file is open for a thread.
+    fn content_apart(&mut self, alloc: Global, path: &str, from: usize) -> io::Result<Object>
+        ensures named { IfOk result (λ object. object.id ≡ object_id (sha1 object.bytes) Plain) }
+        ensures length { IfOk result (λ object. length object.bytes ≤ FOLDER_READ_LIMIT) }
+        ensures closed { OnErr result (self.new.ahead.readers.items ≡ []) }
+        ensures name { self.new.name ≡ self.old.name }
+        ensures faults { self.new.faults ≡ self.old.faults }
+    {
+        let object = content_at(&mut self.system, alloc, path, from);
+        if object.is_err() && self.ahead.end_all() {
+            return content_at(&mut self.system, alloc, path, from);
+        }
+        object
+    }
+
     fn list_now(&mut self, alloc: Global, path: &RepoPath) -> io::Result<Items<FolderItem>>
         ensures ascend { IfOk result (λ items. Ascend items) }
         ensures name { self.new.name ≡ self.old.name }
@@ -102,11 +170,8 @@ impl<R: Files<File = File> + AllocGlobal + Threads + Clone + Drop> SystemFolder<
     {
         let root = self.root_now(alloc)?;
         let folder = folder_path(alloc, root.as_str(), path.names())?;
-        if !has_folders(&mut self.system, folder.as_str(), root.len())? {
-            return Err(io::Error::from(ErrorKind::NotADirectory));
-        }
-        let items = items_of(self.system.rt(), alloc, folder.as_str())?;
         let from = root.len();
+        let items = self.items_apart(alloc, folder.as_str(), from)?;
         self.ahead
             .begin(&mut self.system, folder, from, items.as_slice());
         Ok(items)
@@ -123,18 +188,14 @@ impl<R: Files<File = File> + AllocGlobal + Threads + Clone + Drop> SystemFolder<
         };
         let root = self.root_now(alloc)?;
         let mut file = folder_path(alloc, root.as_str(), above)?;
-        let system = &mut self.system;
-        if let Some(object) = self.ahead.take(system, file.as_str(), last.as_str()) {
+        let ahead = self
+            .ahead
+            .take(&mut self.system, file.as_str(), last.as_str());
+        if let Some(object) = ahead.and_then(FileAhead::into_object) {
             return Ok(object);
         }
         file.push_str(last.as_str())?;
-        match find_file(system, file.as_str(), root.len())? {
-            Some(found) => {
-                let bytes = read_front(system, alloc, file.as_str(), &found, FOLDER_READ_LIMIT)?;
-                Ok(named(bytes))
-            }
-            None => Err(io::Error::from(ErrorKind::NotFound)),
-        }
+        self.content_apart(alloc, file.as_str(), root.len())
     }
 
     /// Want of memory, or one more fault.

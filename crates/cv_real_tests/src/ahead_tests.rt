@@ -1,7 +1,7 @@
 //! Files of a real folder that are read ahead.
 
 use crate::made::begin;
-use cv_base::RepoPath;
+use cv_base::{Kind, ObjectId, RepoPath};
 use cv_ports::Folder;
 use cv_real::SystemFolder;
 use std::alloc::Global;
@@ -9,14 +9,8 @@ use std::fs;
 use std::process::Abort;
 use std::test::Fail;
 
-// The sizes of files of sevens, and their SHA-1 by hashlib of Python.
-const ROWS: [(usize, &str); 5] = [
-    (0, "da39a3ee5e6b4b0d3255bfef95601890afd80709"),
-    (1, "5d1be7e9dda1ee8896be5b7e34a85ee16452a7b4"),
-    (10_240, "3e4a78b4e5ecf2ae2e41602fce5c1825e934a401"),
-    (65_536, "a48f60a4c5099a1b00085be3b42c9f0bbb94d1c6"),
-    (65_537, "c9c9c3fec552cd41e951c7ce6e69403d8887cd08"),
-];
+// The sizes of the files, one after another.
+const SIZES: [usize; 5] = [0, 1, 10_240, 65_536, 65_537];
 
 // The first of 70 files, which are more than threads take at once, and the one that stands in a directory between the others.
 const FIRST: usize = 10;
@@ -33,11 +27,16 @@ fn path_of(alloc: Global, number: usize) -> Result<String, Fail> {
     Ok(format!(in alloc; "/{number}")?)
 }
 
+// The bytes of the file of this number: so many of it that no two files are alike but empty ones.
+fn bytes_of(alloc: Global, number: usize) -> Result<Vec<u8>, Fail> {
+    Ok(vec![in alloc; u8::try_from(number)?; SIZES[number % 5]]?)
+}
+
 fn make_files(rt: &HostRuntime) -> Result<(), Fail> {
     begin(rt, "ahead")?;
     fs::create_dir(rt, "ahead/34-")?;
     for number in FIRST..FIRST + COUNT {
-        let bytes = vec![in rt.alloc(); 7u8; ROWS[number % 5].0]?;
+        let bytes = bytes_of(rt.alloc(), number)?;
         let path = path_of(rt.alloc(), number)?;
         let file = format!(in rt.alloc(); "ahead{path}")?;
         fs::write(rt, file.as_str(), bytes.as_slice())?;
@@ -57,13 +56,13 @@ fn is_given<F: Folder>(alloc: Global, folder: &mut F, number: usize) -> Result<b
     let Ok(object) = folder.read(alloc, &RepoPath::read(alloc, path.as_str())?) else {
         return Ok(false);
     };
-    let (size, hash) = ROWS[number % 5];
-    let bytes = object.bytes.as_slice();
-    let same = bytes.len() == size && bytes.iter().all(|byte| *byte == 7);
-    Ok(same && object.id.text(alloc)?.as_str() == hash)
+    let bytes = bytes_of(alloc, number)?;
+    let id = ObjectId::of(Kind::Plain, bytes.as_slice());
+    Ok(object.bytes.as_slice() == bytes.as_slice() && object.id == id)
 }
 
-// Reads the files from a listing on, so far apart, each but the last, which was removed behind the listing.
+// Reads the files from a listing on, so far apart, each but the last. That one was removed behind the listing, and no thread has
+// it: it is in the fifth group of its directory, and the fourth is the last that is begun before a file is read.
 fn assert_files<F: Folder>(
     rt: &impl Abort,
     alloc: Global,
