@@ -246,11 +246,8 @@ fn print_length<R: Host>(rt: &R, object: Option<Object>) -> io::Result<()> {
 }
 
 fn print_hash<R: Host>(rt: &R, object: Option<Object>) -> io::Result<()> {
-    match object {
-        Some(object) => {
-            let hash = object.id.text(rt.alloc())?;
-            println!(rt; "{hash}")
-        }
+    match object.and_then(|object| object.id.text(rt.alloc()).ok()) {
+        Some(hash) => println!(rt; "{hash}"),
         None => println!(rt; "failed"),
     }
 }
