@@ -185,7 +185,8 @@ impl Directory {
     }
 }
 
-/// The file of a name in a folder, opened, if it can be and is small. The first `from` bytes of the folder's path aren't looked at.
+/// The file of a name in a folder, opened, if it can be and is small: any other is looked for once more, when it is asked for. The
+/// first `from` bytes of the folder's path aren't looked at.
 fn open_small<R: Files<File = File> + AllocGlobal + Threads + Drop>(
     system: &mut SystemCalls<R>,
     folder: &str,
