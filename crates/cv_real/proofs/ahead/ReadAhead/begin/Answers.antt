@@ -1,4 +1,4 @@
-use Rattle.std.proofs.Common.{◌≡◌, ◌≢◌, string_bytes}
+use Rattle.std.proofs.Common.{◌≢◌, string_bytes}
 use Rattle.std.specs.Prelude.{All}
 use Rattle.cv_real.proofs.ReadFiles.{nothing_begun, nothing_of_others}
 use Rattle.cv_real.specs.declared.ahead.Directory.{Directory}

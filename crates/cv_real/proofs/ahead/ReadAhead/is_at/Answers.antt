@@ -1,4 +1,4 @@
-use Rattle.std.proofs.Common.{◌≡◌, ◌∙◌, ◌<◌, get_or, length, rules, string_bytes, sym, true}
+use Rattle.std.proofs.Common.{◌≡◌, ◌∙◌, rules, sym}
 use Rattle.cv_real.proofs.ReadFiles.{innermost}
 use Rattle.cv_real.proofs.ahead.ReadAhead.is_at.Goals as goal
 

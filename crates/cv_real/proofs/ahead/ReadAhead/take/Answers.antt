@@ -1,5 +1,5 @@
 -- the innermost directory is the one that was looked at
-use Rattle.std.proofs.Common.{◌∙◌, ap, refl, string_bytes}
+use Rattle.std.proofs.Common.{ap, refl, string_bytes}
 use Rattle.cv_real.proofs.ReadFiles.{same_images}
 use Rattle.cv_real.specs.declared.ahead.Directory.{Directory}
 use Rattle.cv_real.proofs.ahead.ReadAhead.take.Goals as goal
