@@ -2,11 +2,13 @@
 """The table of cv_run_tests: whole runs of the program, by the tables of the interface and not by the program.
 `crates/cv_run_tests/src/main.rt` says how a row is read.
 
-The stories of publishers, the questions of clients, the lines of shells and the folders that are published stand in scripts of
-their own. Digests are made by hashlib, signatures and seals by hmac.
+The stories of publishers, the questions of clients, the lines of shells, the folders that are published, the publications against
+a session and the runs that are cut stand in scripts of their own. Digests are made by hashlib, signatures and seals by hmac.
 """
+import crashes
 import looks
 import publish_runs
+import releases
 import runs
 import shell_runs
 import stories
@@ -182,8 +184,8 @@ def failing():
 
 
 def rows():
-    for part in made, refused_requests, broken, judged, leases, below, payloads, failing, stories.rows, looks.rows, shell_runs.rows, publish_runs.rows:
-        yield from part()
+    yield from (row for part in (made, refused_requests, broken, judged, leases, below, payloads, failing) for row in part())
+    yield from (row for part in (stories, looks, shell_runs, publish_runs, releases, crashes) for row in part.rows())
 
 
 if __name__ == "__main__":

@@ -1,4 +1,4 @@
-"""How a row of cv_run_tests is written: `crates/cv_run_tests/src/main.rt` says how one is read."""
+"""How a row of cv_run_tests is written that is one run: `crates/cv_run_tests/src/runs.rt` says how one is read."""
 from cvkit_client import REPOSITORY
 from vectors import in_line
 
@@ -19,7 +19,7 @@ def run(words, *parts, code=0, line="", output=b"", requests=b"", objects=2):
     """A run of these words, and what it prints: the status' code and line, the output, what links took, and how many objects are
     there then. A new repository has two."""
     said = f"cvkit: {line}\n".encode() if line else b""
-    return "|".join([",".join(words), *parts]), "|".join([str(code), *map(in_line, (said, output, requests)), str(objects)])
+    return "|".join(["cvkit " + ",".join(words), *parts]), "|".join([str(code), *map(in_line, (said, output, requests)), str(objects)])
 
 
 def octets_of(text):

@@ -1,6 +1,6 @@
 """A publisher of a folder of changes, as docs/PROTOCOL.md tells it: what it asks, and how it ends.
 
-A folder is the words of a row of cv_release_tests (`crates/cv_release_tests/src/folders.rt`), and trees are those of
+A folder is the words of a row of cv_run_tests (`crates/cv_run_tests/src/releases/folders.rt`), and trees are those of
 `cut_vectors.py`. What happens to a link is `None`, or a word of such a row and more.
 """
 import json

@@ -8,7 +8,7 @@ expressions. Comments, spaces, line ends and a comma before a closing bracket do
 
 A script that makes whole files ends in `settle_files(files)`: without words it writes them, and with `--check` it compares
 them, byte by byte. One whose tests are a program, with a table in the crate's `stdin` and what it has to print in `stdout`,
-ends in `settle_lines(crate, rows)`, a row being a line of each.
+ends in `settle_lines(crate, rows)`, a row being a line of the one and what it adds to the other: a line, lines, or None.
 """
 import os
 import re
@@ -74,7 +74,7 @@ def settle_files(files):
 
 def settle_lines(crate, rows):
     """Writes the lines that a program of tests is given and those that it has to print, or compares them with its files."""
-    texts = ("".join(line + "\n" for line in lines) for lines in zip(*rows))
+    texts = ("".join(line + "\n" for line in lines if line is not None) for lines in zip(*rows))
     settle_files({f"crates/{crate}/{file}": made for file, made in zip(("stdin", "stdout"), texts)})
 
 

@@ -1,64 +1,71 @@
-//! The tests of `run` of cv_top, as a table: each line of standard input is a run of the program, and prints the status' code, the
-//! line on it, the output, what links to servers took, and how many objects are there then; with a bar between each two. A line
-//! that begins with `#` is a remark, and prints itself.
-//!
-//! A row is the words of the run with a comma between each two, and behind them what it has, a bar before each part:
+//! The tests of `run` of cv_top, as a table: what a line of standard input is, its first word says.
 //!
 //! ```text
-//! in INPUT               what it reads: nothing without this part
-//! at SECONDS             the clock's first three moments, counted from 1,700,000,000, the last of which stays: 0 0 0 without this
-//! keys TEXT              the text of the keys: that of `k1` and `k2` without this
-//! seal TEXT              the seal: `seal` without this
-//! bare                   no file is there: without this those that `init sw.example.org` makes at the first moment
-//! file NAME=CONTENT      this file is there, beside the others or in the place of one
-//! link REPLY             one more dial gets a link, whose peer gives this and ends
-//! stall REPLY            one more dial gets a link, whose peer gives this, and then nothing until the read fails
-//! item ITEM              the folder of changes has this item: it has none without this part
-//! lost                   the first call for that folder fails
-//! broken CALL            the vault's call of this number fails, counted from the run's first, and is not made
-//! deaf READ              the read of the input with this number fails
-//! mute WRITE             the write to the output with this number fails
+//! # REMARK                    prints itself
+//! cvkit WORDS|PART|..         runs the program, and prints what comes of it: `runs`
+//! publish, again, took,
+//! came, ask, ls, cat, stat    publications against a session over a gate in memory: `releases`
+//! text, scenario, file,
+//! run, try                    runs that are cut, over a vault in memory: `crashes`
 //! ```
-//!
-//! Parts are taken in their order. `cv_lines` says how bytes stand in a line, and `folder` what an item is.
 #![tactic(auto)]
 
+mod crashes;
+mod cut;
 mod folder;
+mod images;
 mod outside;
+mod releases;
 mod running;
+mod runs;
+mod words;
 
-use outside::Outside;
-use running::{end_of, text_of};
+use crashes::Crashes;
+use releases::gateway::Gateway;
+use releases::peer::Peer;
+use releases::served_dial::ServedDial;
 use std::alloc::Global;
 use std::test::Fail;
+use words::first_word;
 
-/// What a run has of which its row says no more: the repository that was made at the first moment.
-fn usual(alloc: Global) -> Result<Outside, Fail> {
-    let made = end_of(alloc, "init,sw.example.org", Outside::bare(alloc)?)?;
-    let mut outside = Outside::bare(alloc)?;
-    outside.vault = made.vault;
-    Ok(outside)
+/// What a line prints, by its first word and those behind it.
+fn answer<P: Peer>(
+    alloc: Global,
+    dial: &mut ServedDial<P>,
+    crashes: &mut Crashes,
+    line: &str,
+) -> Result<Option<String>, Fail> {
+    let (word, rest) = first_word(line);
+    let text = match word {
+        "#" => String::from_str(alloc, line)?,
+        "cvkit" => runs::answer(alloc, rest)?,
+        "scenario" => {
+            crashes.begin(alloc);
+            String::from_str(alloc, line)?
+        }
+        "try" => crashes.try_cuts(alloc, rest)?,
+        "text" | "file" | "run" => {
+            crashes.add(alloc, word, rest)?;
+            return Ok(None);
+        }
+        _ => releases::answer(alloc, dial, word, rest)?,
+    };
+    Ok(Some(text))
 }
 
-/// What a line prints.
-fn answer(alloc: Global, line: &str) -> Result<String, Fail> {
-    if line.starts_with('#') {
-        return Ok(String::from_str(alloc, line)?);
+/// Answers the lines of standard input over a peer.
+fn answer_lines<P: Peer>(rt: HostRuntime) -> Result<(), Fail> {
+    let alloc = rt.alloc();
+    let mut dial = ServedDial::<P>::new(alloc);
+    let mut crashes = Crashes::new(alloc);
+    for line in rt.lines(alloc) {
+        if let Some(text) = answer(alloc, &mut dial, &mut crashes, line?.as_str())? {
+            rt.println(text)?;
+        }
     }
-    let mut parts = line.split('|');
-    let words = parts.next().unwrap_or("");
-    let mut outside = usual(alloc)?;
-    for part in parts {
-        outside.take(alloc, part)?;
-    }
-    text_of(alloc, end_of(alloc, words, outside)?)
+    Ok(())
 }
 
 fn main(rt: HostRuntime) -> Result<(), Fail> {
-    let alloc = rt.alloc();
-    for line in rt.lines(alloc) {
-        let text = answer(alloc, line?.as_str())?;
-        rt.println(text)?;
-    }
-    Ok(())
+    answer_lines::<Gateway>(rt)
 }

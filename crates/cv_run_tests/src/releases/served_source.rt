@@ -1,8 +1,8 @@
 //! What a peer in memory sends on a link.
 ghost use Rattle.std.specs.Prelude.{◌≡◌, ◌≤◌, None, length};
 
-use crate::changes::Change;
-use crate::peer::Peer;
+use crate::releases::changes::Change;
+use crate::releases::peer::Peer;
 use cv_ports::{Failed, FailingCalls, MemorySink, MemorySource, Source};
 use std::alloc::Global;
 

@@ -16,15 +16,17 @@ pub(crate) struct Cut {
     pub(crate) pick: u64,
 }
 
-/// No call fails.
-pub(crate) const WHOLE: Cut = Cut {
-    call: 0,
-    made: false,
-    stops: false,
-    pick: 0,
-};
-
 impl Cut {
+    /// The call of this number fails alone and without its change, or none where it's 0.
+    pub(crate) fn at(call: u64) -> Cut {
+        Cut {
+            call,
+            made: false,
+            stops: false,
+            pick: 0,
+        }
+    }
+
     /// The cut that a word says.
     fn read(word: &str) -> Result<Cut, Fail> {
         let (cut, pick) = word.split_once('@').ok_or("a cut without a pick")?;

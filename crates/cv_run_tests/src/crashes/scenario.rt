@@ -1,9 +1,10 @@
 //! Scenarios: files, and runs over them one after another.
 
-use crate::cut::{Cut, WHOLE};
+use crate::crashes::asked::Asked;
+use crate::crashes::texts::{Texts, number_of};
+use crate::cut::Cut;
 use crate::images::{left_by_crash, push_file, vault_of};
-use crate::runs::{Asked, run_on};
-use crate::texts::{Texts, number_of};
+use crate::running::End;
 use std::alloc::Global;
 use std::test::Fail;
 
@@ -67,8 +68,7 @@ impl Scenario {
         command: &str,
         input: Vec<u8>,
     ) -> Result<(), Fail> {
-        let command = String::from_str(alloc, command)?;
-        self.runs.push(Asked { command, input })?;
+        self.runs.push(Asked::new(alloc, command, input)?)?;
         Ok(())
     }
 
@@ -77,9 +77,17 @@ impl Scenario {
         let asked = self.runs.get(start.run).ok_or("no run")?;
         let image = self.images.get(start.image).ok_or("no image")?;
         let vault = vault_of(alloc, image.as_str(), start.cut)?;
-        let end = run_on(alloc, asked, vault)?;
-        let line = texts.line_of(alloc, end.status, end.written.as_slice())?;
-        Ok((line, left_by_crash(alloc, end.vault, start.cut.pick)?))
+        let End {
+            code,
+            output,
+            errors,
+            vault,
+            ..
+        } = asked.end_over(alloc, vault)?;
+        let mut written = output;
+        written.extend_from_slice(errors.as_slice())?;
+        let line = texts.line_of(alloc, code, written.as_slice())?;
+        Ok((line, left_by_crash(alloc, vault, start.cut.pick)?))
     }
 
     /// The place of the step that begins so, which is made where it wasn't yet.
@@ -100,7 +108,7 @@ impl Scenario {
         let mut image = number_of(&mut self.images, files)?;
         let mut way = String::new(alloc);
         for run in 0..self.runs.len() {
-            let cut = cuts.get(run).copied().unwrap_or(WHOLE);
+            let cut = cuts.get(run).copied().unwrap_or(Cut::at(0));
             let place = self.step(alloc, texts, Start { run, image, cut })?;
             let step = self.steps.get(place).ok_or("no step")?;
             way.push_str(if run == 0 { "" } else { " / " })?;

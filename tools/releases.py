@@ -1,9 +1,8 @@
-#!/usr/bin/env python3
-"""The table of cv_release_tests: publications of folders over links that a gateway serves, by a second telling of both.
+"""Publications of folders for cv_run_tests, over links that a gateway serves, and what is printed, by a second telling of both.
 
-`crates/cv_release_tests/src/main.rt` says how a row is read, and `folders.rt` beside it how a folder is written. What comes of a row
-is by `told_gateway.py` and `told_publisher.py`, and not by the program. Where a folder can't be published, and what a question
-finds, is told by hand.
+`crates/cv_run_tests/src/releases.rt` says how a row is read, and `releases/folders.rt` beside it how a folder is written. What
+comes of a row is by `told_gateway.py` and `told_publisher.py`, and not by the program. Where a folder can't be published, and
+what a question finds, is told by hand.
 """
 import random
 import re
@@ -13,9 +12,8 @@ from cvkit_client import LIST, ZEROS, commit, digest_of, end, get, lease
 from publish_runs import EMPTY, reply, root_of, said
 from told_gateway import DONE, HEAD, LEASE_TIME, Gateway, kept_open, refused
 from told_publisher import OPAQUE, Publication, bad_whiteout, changed
-from vectors import in_line, settle_lines
+from vectors import in_line
 
-random.seed(244)
 COUNT = 20
 
 
@@ -325,12 +323,9 @@ def generated_rows(table):
             table.again(random.choice(paths + ["", "/r", "/n"]) or "/", " ".join(generated()), *links)
 
 
-def main():
+def rows():
+    random.seed(244)
     table = Table()
-    for rows in stories, releases, folders, refusals, cuts, clocks, generated_rows:
-        rows(table)
-    settle_lines("cv_release_tests", table.rows)
-
-
-if __name__ == "__main__":
-    main()
+    for part in stories, releases, folders, refusals, cuts, clocks, generated_rows:
+        part(table)
+    return table.rows

@@ -1,7 +1,7 @@
 //! What a line of the table prints.
 
-use crate::peer::Peer;
-use crate::served_dial::{Exchange, ServedDial};
+use crate::releases::peer::Peer;
+use crate::releases::served_dial::{Exchange, ServedDial};
 use cv_base::{NoMemory, digest_text};
 use sha1::Sha1;
 use std::alloc::Global;

@@ -1,6 +1,7 @@
 //! A gateway in memory, which lives across links.
 
-use crate::peer::Peer;
+use crate::outside::{KEYS, REPOSITORY, SEAL, START, clock_at};
+use crate::releases::peer::Peer;
 use cv_base::{Name, NoMemory};
 use cv_desk::{Gate, OneDesk};
 use cv_http::Wire;
@@ -13,15 +14,6 @@ use cv_vault::MemoryVault;
 use std::alloc::Global;
 use std::marker::Model;
 use std::test::Fail;
-
-/// The keys text of two keys.
-pub(crate) const KEYS: &str = r#"{"keys":[{"id":"k1","secret":"s1"},{"id":"k2","secret":"s2"}]}"#;
-
-/// The seal.
-pub(crate) const SEAL: &str = "seal";
-
-/// The first moment.
-pub(crate) const START: u64 = 1_700_000_000;
 
 /// The most bytes that one read of a connection gives.
 const PIECE: usize = 65_536;
@@ -77,16 +69,10 @@ fn opened(
 
 /// The desk over a new repository.
 fn desk(alloc: Global) -> Result<OneDesk<MemoryVault, KeyedHash>, Fail> {
-    let name = Name::read(alloc, "sw.example.org")?.ok_or("no name")?;
+    let name = Name::read(alloc, REPOSITORY)?.ok_or("no name")?;
     let signer = signer(alloc)?;
     let vault = made(alloc, &name, &signer)?;
     opened(alloc, vault, name, signer)
-}
-
-/// A clock that stands so many seconds after the first moment.
-fn clock_at(alloc: Global, seconds: u32) -> Result<MemoryClock, NoMemory> {
-    let moment = START + u64::from(seconds);
-    Ok(MemoryClock::new(Vec::from_slice(alloc, &[moment])?))
 }
 
 /// The wire of a connection that brings these bytes alone.
@@ -138,7 +124,7 @@ impl Peer for Gateway {
     /// What a session replies.
     fn reply(&mut self, requests: &[u8]) -> Result<Vec<u8>, NoMemory> {
         let alloc = self.alloc;
-        let mut clock = clock_at(alloc, self.seconds)?;
+        let mut clock = clock_at(alloc, [self.seconds, self.seconds, self.seconds])?;
         let mut wire = wire_of(alloc, requests)?;
         let mut sink = MemorySink::new(alloc, ROOM, Vec::new(alloc))?;
         self.serve(&mut clock, &mut wire, &mut sink);

@@ -2,9 +2,9 @@
 ghost use Rattle.std.specs.Prelude.{◌≡◌, ◌≤◌, [], None, IfSome};
 ghost use Rattle.cv_ports.specs.Dial.{after_back};
 
-use crate::changes::Change;
-use crate::peer::Peer;
-use crate::served_source::ServedSource;
+use crate::releases::changes::Change;
+use crate::releases::peer::Peer;
+use crate::releases::served_source::ServedSource;
 use cv_base::NoMemory;
 use cv_ports::{Dial, Failed, FailingCalls, HostName, Link, MemorySink, MemorySource};
 use std::alloc::Global;

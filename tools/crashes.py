@@ -1,8 +1,5 @@
-#!/usr/bin/env python3
-"""The table of crates/cv_crashes, and what the program has to say of it: runs of cvkit that are cut at each call of the vault.
-
-    tools/crashes_vectors.py            writes the crate's `stdin` and `stdout`
-    tools/crashes_vectors.py --check    compares them
+"""Runs of cvkit for cv_run_tests that are cut at each call of the vault, and what is printed of them.
+`crates/cv_run_tests/src/crashes.rt` says how a row is read.
 
 What comes of each case is reckoned by `told_runs.py`, call by call. So each case has one outcome, and no pick of a crash is tried
 whose bits go beyond the names that aren't settled; at most 16 are. Each outcome is held to the promise, too (`keeps` and its like):
@@ -23,7 +20,6 @@ from told_runs import (
     BELOW_MANIFEST, EPOCH, FIRST_MANIFEST, HEAD, INIT, LINES, NONE, OBJECTS, TEXTS, Cut, Vault,
     commits, end_of, ends, gets, lease_on, path_of, refused_by, sends, text,
 )
-from vectors import settle_files
 
 # ---- cases: how runs are cut, one after another, and the crash behind each. Behind a run that isn't cut comes a crash, too.
 
@@ -63,25 +59,24 @@ class Scenario:
     def __init__(self, called, files, keeps, *runs):
         self.called, self.named, self.keeps, self.runs = called, files, keeps, runs
         self.files = {path: TEXTS[one] for path, one in files.items()}
-        self.rows, self.said, self.ways, self.names = [], [f"scenario {called}"], [], set()
+        self.tried, self.ways, self.names = [], [], set()
 
-    def way_of(self, ended):
+    def way_of(self, ended, said):
         """The number of a way to end, which is said where it's a new one."""
         assert self.keeps(*ended), ended
         self.names.update(word for one in ended for word in one[1:])
         if ended not in self.ways:
             self.ways.append(ended)
-            self.said.append(f"way {len(self.ways)}: " + " / ".join(map(" ".join, ended)))
+            said.append(f"way {len(self.ways)}: " + " / ".join(map(" ".join, ended)))
         return self.ways.index(ended) + 1
 
     def try_cut(self, *cuts):
         """Tries each pick behind the last of these cuts."""
         _, vault = ends_of(self.files, self.runs, cuts)
-        picks = vault.picks()
-        ways = [self.way_of(ends_of(self.files, self.runs, (*cuts[:-1], (cuts[-1][0], pick)))[0]) for pick in range(picks)]
+        picks, said = vault.picks(), []
+        ways = [self.way_of(ends_of(self.files, self.runs, (*cuts[:-1], (cuts[-1][0], pick)))[0], said) for pick in range(picks)]
         words = " ".join(cut_word(*cut) for cut in (*cuts[:-1], (cuts[-1][0], picks)))
-        self.rows.append(f"try {words}")
-        self.said.append(f"{words}: " + " ".join(map(str, ways)))
+        self.tried.append((f"try {words}", "\n".join([*said, f"{words}: " + " ".join(map(str, ways))])))
 
     def try_all(self, before=()):
         """Cuts the run behind those that are cut so at each call."""
@@ -101,12 +96,12 @@ class Scenario:
                     self.try_all([(cut, pick)])
         return self
 
-    def lines(self):
-        yield f"scenario {self.called}"
-        yield from (f"file {path} {called}" for path, called in self.named.items())
+    def rows(self):
+        yield (f"scenario {self.called}",) * 2
+        yield from ((f"file {path} {called}", None) for path, called in self.named.items())
         for run in self.runs:
-            yield "run init" if run is INIT else " ".join(["run stdio", *(one.text for one in run)])
-        yield from self.rows
+            yield "run init" if run is INIT else " ".join(["run stdio", *(one.text for one in run)]), None
+        yield from self.tried
 
 
 # ---- what is promised
@@ -189,10 +184,9 @@ def scenarios():
     yield Scenario("again", FILES, keeps, ONCE, asked_again("1-1", "2-1"), asked_again("1-1", "2-1", "3-1"), READ_ALL).try_twice()
 
 
-if __name__ == "__main__":
+def rows():
     made = list(scenarios())
-    rows = [line for one in made for line in one.lines()]
-    spoken_of = {word for line in rows for word in line.split()[2:]}.union(*(one.names for one in made))
-    table = [*(f"text {called} {TEXTS[called].hex()}" for called in sorted(TEXTS.keys() & spoken_of)), *rows]
-    files = {"stdin": table, "stdout": [line for one in made for line in one.said]}
-    settle_files({f"crates/cv_crashes/{file}": "\n".join(lines) + "\n" for file, lines in files.items()})
+    told_of = [row for one in made for row in one.rows()]
+    spoken_of = {word for line, _ in told_of for word in line.split()[2:]}.union(*(one.names for one in made))
+    yield from ((f"text {called} {TEXTS[called].hex()}", None) for called in sorted(TEXTS.keys() & spoken_of))
+    yield from told_of

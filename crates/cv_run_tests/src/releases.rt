@@ -1,7 +1,6 @@
-//! The tests of `publish` against a session, as a table: each line of standard input prints one line.
+//! Rows of publications against a session.
 //!
 //! ```text
-//! # REMARK                      prints itself
 //! publish PATH|FOLDER|LINK|..   publishes a folder at a path of a new repository, and prints how that ends
 //! again PATH|FOLDER|LINK|..     publishes one at a path of the repository that stands
 //! took NUMBER                   prints what a link of the last run took
@@ -18,26 +17,48 @@
 //! it: `undialled` is one that isn't opened, the reads of one that is `failing` fail, and of the reply on `cut 40` only 40 bytes
 //! come. On `says REPLY` comes this, and the gateway isn't asked. Before `others 7200 REQUESTS` it is 7,200 seconds after the first
 //! moment, and others ask this.
-#![tactic(auto)]
 
 mod changes;
 mod folders;
-mod gateway;
-mod peer;
-mod runs;
-mod served_dial;
+pub(crate) mod gateway;
+pub(crate) mod peer;
+pub(crate) mod served_dial;
 mod served_source;
 mod told;
 
-use changes::{changes, first_word};
+use crate::folder::no_change;
+use crate::outside::Outside;
+use crate::running::end_of;
+use changes::changes;
 use cv_lines::{bytes_of, line_of};
-use gateway::Gateway;
+use cv_ports::MemoryFolder;
+use folders::folder_of_words;
 use peer::Peer;
-use runs::{asked, published};
 use served_dial::{Exchange, ServedDial};
 use std::alloc::Global;
+use std::mem::swap;
 use std::test::Fail;
 use told::publication_text;
+
+/// Where the repository is served, as a word of a run.
+const URL: &str = "http://h/cvmfs/sw.example.org";
+
+/// Runs the program on these words, this folder and this dial, and tells how it ends.
+fn run_on<P: Peer>(
+    alloc: Global,
+    words: &str,
+    folder: MemoryFolder,
+    dial: &mut ServedDial<P>,
+) -> Result<String, Fail> {
+    let mut own = ServedDial::new(alloc);
+    swap(dial, &mut own);
+    let mut end = end_of(alloc, words, Outside::bare(alloc)?, folder, own)?;
+    swap(dial, &mut end.dial);
+    let code = end.code;
+    let output = line_of(alloc, end.output.as_slice())?;
+    let errors = line_of(alloc, end.errors.as_slice())?;
+    Ok(format!(in alloc; "{code} {output}{errors}")?)
+}
 
 /// Publishes what a row says.
 fn publish<P: Peer>(alloc: Global, dial: &mut ServedDial<P>, row: &str) -> Result<String, Fail> {
@@ -46,7 +67,9 @@ fn publish<P: Peer>(alloc: Global, dial: &mut ServedDial<P>, row: &str) -> Resul
     };
     let (words, links) = rest.split_once('|').unwrap_or((rest, ""));
     dial.begin(changes(alloc, links)?);
-    let end = published(alloc, dial, path, words)?;
+    let folder = folder_of_words(alloc, words)?;
+    let run = format!(in alloc; "publish,{URL},{path},changes")?;
+    let end = run_on(alloc, run.as_str(), folder, dial)?;
     publication_text(alloc, end.as_str(), dial)
 }
 
@@ -58,7 +81,8 @@ fn question<P: Peer>(
     path: &str,
 ) -> Result<String, Fail> {
     dial.begin(Vec::new(alloc));
-    asked(alloc, dial, word, path)
+    let run = format!(in alloc; "{word},{URL},{path}")?;
+    run_on(alloc, run.as_str(), no_change(alloc)?, dial)
 }
 
 /// The link of a number, from 1 on.
@@ -75,11 +99,14 @@ fn reply<P: Peer>(alloc: Global, dial: &mut ServedDial<P>, requests: &str) -> Re
     line_of(alloc, reply.as_slice())
 }
 
-/// What a line prints.
-fn answer<P: Peer>(alloc: Global, dial: &mut ServedDial<P>, line: &str) -> Result<String, Fail> {
-    let (word, rest) = first_word(line);
+/// What a row prints, by its first word and those behind it.
+pub(crate) fn answer<P: Peer>(
+    alloc: Global,
+    dial: &mut ServedDial<P>,
+    word: &str,
+    rest: &str,
+) -> Result<String, Fail> {
     match word {
-        "#" => Ok(String::from_str(alloc, line)?),
         "publish" => {
             dial.renew()?;
             publish(alloc, dial, rest)
@@ -91,19 +118,4 @@ fn answer<P: Peer>(alloc: Global, dial: &mut ServedDial<P>, line: &str) -> Resul
         "ls" | "cat" | "stat" => question(alloc, dial, word, rest),
         _ => Err(Fail::new("no row")),
     }
-}
-
-/// Answers the lines of standard input over a peer.
-fn answer_lines<P: Peer>(rt: HostRuntime) -> Result<(), Fail> {
-    let alloc = rt.alloc();
-    let mut dial = ServedDial::<P>::new(alloc);
-    for line in rt.lines(alloc) {
-        let text = answer(alloc, &mut dial, line?.as_str())?;
-        rt.println(text)?;
-    }
-    Ok(())
-}
-
-fn main(rt: HostRuntime) -> Result<(), Fail> {
-    answer_lines::<Gateway>(rt)
 }

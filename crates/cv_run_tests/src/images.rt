@@ -23,7 +23,7 @@ pub(crate) fn push_file(
 }
 
 /// The image of a vault.
-fn image_of(alloc: Global, vault: &mut MemoryVault) -> Result<String, Fail> {
+pub(crate) fn image_of(alloc: Global, vault: &mut MemoryVault) -> Result<String, Fail> {
     let names = vault.list("")?;
     let mut image = String::new(alloc);
     for name in &names {

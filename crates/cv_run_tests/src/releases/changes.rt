@@ -1,5 +1,6 @@
 //! What happens to a link, by the words of a row.
 
+use crate::words::first_word;
 use cv_lines::bytes_of;
 use std::alloc::Global;
 use std::test::Fail;
@@ -19,11 +20,6 @@ pub(crate) enum Change {
     Says(Vec<u8>),
     /// Of what the gateway replies only so many bytes come.
     Cut(usize),
-}
-
-/// The first word of a text, and what stands behind it.
-pub(crate) fn first_word(text: &str) -> (&str, &str) {
-    text.split_once(' ').unwrap_or((text, ""))
 }
 
 impl Change {
