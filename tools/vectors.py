@@ -6,9 +6,9 @@
 A script ends in `settle(file, items)`: the tests' file and the texts of the items, which may be whole constants, or
 expressions. Comments, spaces, line ends and a comma before a closing bracket don't count; all else does.
 
-A script that makes whole files ends in `settle_files(files)`: without words it writes them, and with `--check` it compares
-them, byte by byte. One whose tests are a program, with a table in the crate's `stdin` and what it has to print in `stdout`,
-ends in `settle_lines(crate, rows)`, a row being a line of the one and what it adds to the other: a line, lines, or None.
+One whose tests are a program, with a table in the crate's `stdin` and what it has to print in `stdout`, ends in
+`settle_lines(crate, rows)`, a row being a line of the one and what it adds to the other: a line, lines, or None. Without words it
+writes both files, and with `--check` it compares them, byte by byte.
 """
 import os
 import re
@@ -55,27 +55,20 @@ def settle(file, items):
     print(f"{name}: checked {len(items)} of {file}")
 
 
-def settle_files(files):
-    """Writes files of these texts, or compares those that are there with them."""
+def settle_lines(crate, rows):
+    """Writes the lines that a program of tests is given and those that it has to print, or compares them with its files."""
     name = os.path.basename(sys.argv[0])
     checks = is_check(name)
-    for file, made in files.items():
-        path = os.path.join(TOP, file)
-        if not checks:
-            with open(path, "w", encoding="utf-8") as written:
-                written.write(made)
-            continue
-        with open(path, encoding="utf-8") as there:
-            if there.read() != made:
+    files = [f"crates/{crate}/{file}" for file in ("stdin", "stdout")]
+    for file, lines in zip(files, zip(*rows)):
+        made = "".join(line + "\n" for line in lines if line is not None)
+        with open(os.path.join(TOP, file), "r" if checks else "w", encoding="utf-8") as there:
+            if not checks:
+                there.write(made)
+            elif there.read() != made:
                 sys.exit(f"{name}: {file} is other than this makes it")
     if checks:
         print(f"{name}: checked {len(files)} files: {', '.join(files)}")
-
-
-def settle_lines(crate, rows):
-    """Writes the lines that a program of tests is given and those that it has to print, or compares them with its files."""
-    texts = ("".join(line + "\n" for line in lines if line is not None) for lines in zip(*rows))
-    settle_files({f"crates/{crate}/{file}": made for file, made in zip(("stdin", "stdout"), texts)})
 
 
 def in_line(data):
