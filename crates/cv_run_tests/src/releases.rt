@@ -43,6 +43,16 @@ use told::publication_text;
 /// Where the repository is served, as a word of a run.
 const URL: &str = "http://h/cvmfs/sw.example.org";
 
+/// The words of a run that publishes a folder at a path.
+fn publication_words(alloc: Global, path: &str) -> Result<String, Fail> {
+    Ok(format!(in alloc; "publish,{URL},{path},changes")?)
+}
+
+/// The words of a run that asks a question on a path.
+fn question_words(alloc: Global, question: &str, path: &str) -> Result<String, Fail> {
+    Ok(format!(in alloc; "{question},{URL},{path}")?)
+}
+
 /// Runs the program on these words, this folder and this dial, and tells how it ends.
 fn run_on<P: Peer>(
     alloc: Global,
@@ -68,8 +78,8 @@ fn publish<P: Peer>(alloc: Global, dial: &mut ServedDial<P>, row: &str) -> Resul
     let (words, links) = rest.split_once('|').unwrap_or((rest, ""));
     dial.begin(changes(alloc, links)?);
     let folder = folder_of_words(alloc, words)?;
-    let run = format!(in alloc; "publish,{URL},{path},changes")?;
-    let end = run_on(alloc, run.as_str(), folder, dial)?;
+    let words = publication_words(alloc, path)?;
+    let end = run_on(alloc, words.as_str(), folder, dial)?;
     publication_text(alloc, end.as_str(), dial)
 }
 
@@ -81,8 +91,9 @@ fn question<P: Peer>(
     path: &str,
 ) -> Result<String, Fail> {
     dial.begin(Vec::new(alloc));
-    let run = format!(in alloc; "{word},{URL},{path}")?;
-    run_on(alloc, run.as_str(), no_change(alloc)?, dial)
+    let words = question_words(alloc, word, path)?;
+    let folder = no_change(alloc)?;
+    run_on(alloc, words.as_str(), folder, dial)
 }
 
 /// The link of a number, from 1 on.

@@ -1,11 +1,13 @@
 //! A run of the program, and how it ends.
 
+use crate::folder::no_change;
 use crate::outside::{Outside, REPOSITORY};
 use cv_base::NoMemory;
 use cv_ports::{Dial, MemoryClock, MemoryDial, MemoryFolder, MemorySink, MemorySource, NoHold};
 use cv_top::{Parts, Status, run};
 use cv_vault::MemoryVault;
 use std::alloc::Global;
+use std::test::Fail;
 
 /// The most bytes that a run may write on its output.
 const ROOM: usize = 200_000;
@@ -38,11 +40,6 @@ type Memory<N> = Parts<
 /// The words of a run that does a command on the repository, with a comma between each two.
 pub(crate) fn words_on(alloc: Global, command: &str) -> Result<String, NoMemory> {
     Ok(format!(in alloc; "{command},{REPOSITORY}")?)
-}
-
-/// A dial that opens no link.
-pub(crate) fn no_link(alloc: Global) -> Result<MemoryDial, NoMemory> {
-    MemoryDial::new(alloc, Vec::new(alloc), Vec::new(alloc))
 }
 
 /// The words of a text, with a comma between each two.
@@ -115,4 +112,15 @@ pub(crate) fn end_of<N: Dial + Drop>(
         vault: parts.vault,
         dial: parts.dial,
     })
+}
+
+/// How a run of these words ends, with a comma between each two, that has no change and no link.
+pub(crate) fn end_alone(
+    alloc: Global,
+    words: &str,
+    outside: Outside,
+) -> Result<End<MemoryDial>, Fail> {
+    let folder = no_change(alloc)?;
+    let dial = MemoryDial::new(alloc, Vec::new(alloc), Vec::new(alloc))?;
+    Ok(end_of(alloc, words, outside, folder, dial)?)
 }

@@ -24,9 +24,8 @@
 mod given;
 mod items;
 
-use crate::folder::no_change;
 use crate::outside::Outside;
-use crate::running::{End, end_of, no_link, words_on};
+use crate::running::{End, end_alone, words_on};
 use cv_lines::line_of;
 use cv_ports::MemoryDial;
 use cv_vault::{MemoryVault, Vault};
@@ -37,8 +36,7 @@ use std::test::Fail;
 /// What a run has of which its row says no more: the repository that was made at the first moment.
 fn usual(alloc: Global) -> Result<Outside, Fail> {
     let words = words_on(alloc, "init")?;
-    let (folder, dial) = (no_change(alloc)?, no_link(alloc)?);
-    let made = end_of(alloc, words.as_str(), Outside::bare(alloc)?, folder, dial)?;
+    let made = end_alone(alloc, words.as_str(), Outside::bare(alloc)?)?;
     let mut outside = Outside::bare(alloc)?;
     outside.vault = made.vault;
     Ok(outside)
@@ -96,6 +94,5 @@ pub(crate) fn answer(alloc: Global, row: &str) -> Result<String, Fail> {
     for part in parts {
         given.take(alloc, part)?;
     }
-    let (outside, folder, dial) = given.into_parts(alloc)?;
-    text_of(alloc, end_of(alloc, words, outside, folder, dial)?)
+    text_of(alloc, given.end_of(alloc, words)?)
 }

@@ -1,9 +1,7 @@
 //! Runs over a vault that is cut.
 
-use crate::folder::no_change;
 use crate::outside::Outside;
-use crate::running::{End, end_of, no_link, words_on};
-use cv_ports::MemoryDial;
+use crate::running::{end_alone, words_on};
 use cv_vault::MemoryVault;
 use std::alloc::Global;
 use std::test::Fail;
@@ -13,6 +11,14 @@ use std::test::Fail;
 pub(crate) struct Asked {
     words: String,
     input: Vec<u8>,
+}
+
+/// How a run ended: the status' code, all that it wrote on the output and then on the status, and the vault.
+#[derive(Drop)]
+pub(crate) struct Ended {
+    pub(crate) code: u8,
+    pub(crate) written: Vec<u8>,
+    pub(crate) vault: MemoryVault,
 }
 
 impl Asked {
@@ -31,13 +37,15 @@ impl Asked {
     }
 
     /// How it ends over a vault.
-    pub(crate) fn end_over(
-        &self,
-        alloc: Global,
-        vault: MemoryVault,
-    ) -> Result<End<MemoryDial>, Fail> {
+    pub(crate) fn end_over(&self, alloc: Global, vault: MemoryVault) -> Result<Ended, Fail> {
         let outside = self.outside(alloc, vault)?;
-        let (folder, dial) = (no_change(alloc)?, no_link(alloc)?);
-        Ok(end_of(alloc, self.words.as_str(), outside, folder, dial)?)
+        let end = end_alone(alloc, self.words.as_str(), outside)?;
+        let mut written = end.output;
+        written.extend_from_slice(end.errors.as_slice())?;
+        Ok(Ended {
+            code: end.code,
+            written,
+            vault: end.vault,
+        })
     }
 }

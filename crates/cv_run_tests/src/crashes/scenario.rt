@@ -4,7 +4,6 @@ use crate::crashes::asked::Asked;
 use crate::crashes::texts::{Texts, number_of};
 use crate::cut::Cut;
 use crate::images::{left_by_crash, push_file, vault_of};
-use crate::running::End;
 use std::alloc::Global;
 use std::test::Fail;
 
@@ -77,17 +76,9 @@ impl Scenario {
         let asked = self.runs.get(start.run).ok_or("no run")?;
         let image = self.images.get(start.image).ok_or("no image")?;
         let vault = vault_of(alloc, image.as_str(), start.cut)?;
-        let End {
-            code,
-            output,
-            errors,
-            vault,
-            ..
-        } = asked.end_over(alloc, vault)?;
-        let mut written = output;
-        written.extend_from_slice(errors.as_slice())?;
-        let line = texts.line_of(alloc, code, written.as_slice())?;
-        Ok((line, left_by_crash(alloc, vault, start.cut.pick)?))
+        let end = asked.end_over(alloc, vault)?;
+        let line = texts.line_of(alloc, end.code, end.written.as_slice())?;
+        Ok((line, left_by_crash(alloc, end.vault, start.cut.pick)?))
     }
 
     /// The place of the step that begins so, which is made where it wasn't yet.

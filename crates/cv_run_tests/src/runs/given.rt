@@ -4,11 +4,12 @@ ghost use Rattle.std.specs.Prelude.{◌<◌};
 use crate::cut::Cut;
 use crate::images::{image_of, vault_of};
 use crate::outside::{Outside, clock_at};
+use crate::running::{End, end_of};
 use crate::runs::items::folder_of_items;
 use crate::words::first_word;
 use cv_base::NoMemory;
 use cv_lines::bytes_of;
-use cv_ports::{MemoryClock, MemoryDial, MemoryFolder, MemoryLink, MemorySink, MemorySource};
+use cv_ports::{MemoryClock, MemoryDial, MemoryLink, MemorySink, MemorySource};
 use cv_vault::{MemoryVault, Vault};
 use std::alloc::Global;
 use std::test::Fail;
@@ -71,11 +72,8 @@ impl Given {
         }
     }
 
-    /// The outside, the folder of changes, and the links to servers.
-    pub(crate) fn into_parts(
-        self,
-        alloc: Global,
-    ) -> Result<(Outside, MemoryFolder, MemoryDial), Fail> {
+    /// How a run of these words ends that has this.
+    pub(crate) fn end_of(self, alloc: Global, words: &str) -> Result<End<MemoryDial>, Fail> {
         let Given {
             outside,
             links,
@@ -84,13 +82,14 @@ impl Given {
         } = self;
         let folder = folder_of_items(alloc, items.as_slice(), lost)?;
         let dial = MemoryDial::new(alloc, links, Vec::new(alloc))?;
-        Ok((outside, folder, dial))
+        Ok(end_of(alloc, words, outside, folder, dial)?)
     }
 
-    /// Takes a text that the run is given.
+    /// Takes moments, or a text that the run is given.
     fn take_text(&mut self, alloc: Global, word: &str, rest: &str) -> Result<(), Fail> {
         match word {
             "in" => self.outside.input = bytes_of(alloc, rest)?,
+            "at" => self.outside.clock = clock_of(alloc, rest)?,
             "keys" => self.outside.keys = String::from_str(alloc, rest)?,
             "seal" => self.outside.seal = String::from_str(alloc, rest)?,
             "item" => self.items.push(String::from_str(alloc, rest)?)?,
@@ -99,19 +98,34 @@ impl Given {
         Ok(())
     }
 
+    /// Takes what happens to the vault.
+    fn take_vault(&mut self, alloc: Global, word: &str, rest: &str) -> Result<(), Fail> {
+        let vault = &mut self.outside.vault;
+        match word {
+            "bare" => *vault = MemoryVault::new(alloc, Vec::new(alloc))?,
+            "file" => put(alloc, vault, rest)?,
+            _ => *vault = broken(alloc, vault, rest)?,
+        }
+        Ok(())
+    }
+
     /// Takes a link to a server.
-    fn take_link(&mut self, made: MemoryLink) -> Result<(), Fail> {
+    fn take_link(&mut self, alloc: Global, word: &str, reply: &str) -> Result<(), Fail> {
+        let reply = bytes_of(alloc, reply)?;
+        let made = match word {
+            "link" => link(alloc, reply, 100, 0)?,
+            _ => stalled_link(alloc, reply)?,
+        };
         self.links.push(made)?;
         Ok(())
     }
 
-    /// Takes the number of a call that fails, or a text.
-    fn take_failing(&mut self, alloc: Global, word: &str, rest: &str) -> Result<(), Fail> {
+    /// Takes the number of a call that fails.
+    fn take_failing(&mut self, word: &str, number: u64) -> Result<(), Fail> {
         match word {
-            "lost" => self.lost.push(1)?,
-            "deaf" => self.outside.reads.push(rest.parse()?)?,
-            "mute" => self.outside.writes.push(rest.parse()?)?,
-            _ => return self.take_text(alloc, word, rest),
+            "lost" => self.lost.push(number)?,
+            "deaf" => self.outside.reads.push(number)?,
+            _ => self.outside.writes.push(number)?,
         }
         Ok(())
     }
@@ -120,14 +134,11 @@ impl Given {
     pub(crate) fn take(&mut self, alloc: Global, part: &str) -> Result<(), Fail> {
         let (word, rest) = first_word(part);
         match word {
-            "at" => self.outside.clock = clock_of(alloc, rest)?,
-            "bare" => self.outside.vault = MemoryVault::new(alloc, Vec::new(alloc))?,
-            "file" => put(alloc, &mut self.outside.vault, rest)?,
-            "broken" => self.outside.vault = broken(alloc, &mut self.outside.vault, rest)?,
-            "link" => self.take_link(link(alloc, bytes_of(alloc, rest)?, 100, 0)?)?,
-            "stall" => self.take_link(stalled_link(alloc, bytes_of(alloc, rest)?)?)?,
-            _ => return self.take_failing(alloc, word, rest),
+            "bare" | "file" | "broken" => self.take_vault(alloc, word, rest),
+            "link" | "stall" => self.take_link(alloc, word, rest),
+            "lost" => self.take_failing(word, 1),
+            "deaf" | "mute" => self.take_failing(word, rest.parse()?),
+            _ => self.take_text(alloc, word, rest),
         }
-        Ok(())
     }
 }
