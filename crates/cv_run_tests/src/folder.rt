@@ -7,14 +7,25 @@ use cv_ports::{FolderItem, FoundKind, MemoryFolder};
 use std::alloc::Global;
 use std::test::Fail;
 
+/// What a file holds.
+#[derive(Clone, Copy)]
+pub(crate) enum Content<'a> {
+    /// These bytes, as a line has them.
+    Line(&'a str),
+    /// This text.
+    Text(&'a str),
+    /// So many zero bytes.
+    Zeros(u32),
+}
+
 /// What an entry is.
 #[derive(Clone, Copy)]
 pub(crate) enum Kind<'a> {
     Dir,
-    /// A file of these bytes, as a line has them.
-    File(&'a str),
-    /// A file of so many zero bytes.
-    Zeros(u32),
+    /// A file that holds this.
+    File(Content<'a>),
+    /// A file that is listed, and holds nothing.
+    Listed,
     /// A link to this.
     Link(&'a str),
     Special,
@@ -27,11 +38,12 @@ pub(crate) struct Entry<'a> {
     above: &'a str,
     name: &'a str,
     kind: Kind<'a>,
+    mode: u32,
 }
 
 impl<'a> Entry<'a> {
-    /// The entry at a path.
-    pub(crate) fn new(path: &'a str, kind: Kind<'a>) -> Result<Entry<'a>, Fail> {
+    /// The entry at a path, of which the folder says this mode.
+    pub(crate) fn new(path: &'a str, kind: Kind<'a>, mode: u32) -> Result<Entry<'a>, Fail> {
         let Some((above, name)) = path.rsplit_once('/') else {
             return Err(Fail::new("no path of an entry"));
         };
@@ -40,22 +52,23 @@ impl<'a> Entry<'a> {
             above,
             name,
             kind,
+            mode,
         })
     }
 }
 
-/// What a folder says of an entry, with the mode as a system tells it.
+/// What a folder says of an entry.
 fn listed(alloc: Global, entry: &Entry<'_>) -> Result<FolderItem, NoMemory> {
-    let (kind, mode) = match entry.kind {
-        Kind::Dir => (FoundKind::Dir, 0o040_755),
-        Kind::File(_) | Kind::Zeros(_) => (FoundKind::File, 0o100_644),
-        Kind::Link(target) => (FoundKind::Link(Text::from_str(alloc, target)?), 0o120_777),
-        Kind::Special => (FoundKind::Special, 0o010_644),
+    let kind = match entry.kind {
+        Kind::Dir => FoundKind::Dir,
+        Kind::File(_) | Kind::Listed => FoundKind::File,
+        Kind::Link(target) => FoundKind::Link(Text::from_str(alloc, target)?),
+        Kind::Special => FoundKind::Special,
     };
     Ok(FolderItem {
         name: Text::from_str(alloc, entry.name)?,
         kind,
-        mode,
+        mode: entry.mode,
         mtime: START,
     })
 }
@@ -91,32 +104,33 @@ fn directories(
     Ok(directories)
 }
 
-/// The content of an entry, which only a file has.
-fn content_of(alloc: Global, kind: Kind<'_>) -> Result<Option<Bytes>, Fail> {
-    match kind {
-        Kind::File(line) => Ok(Some(Bytes::new(bytes_of(alloc, line)?))),
-        Kind::Zeros(size) => {
+/// The bytes that a file holds.
+fn held(alloc: Global, content: Content<'_>) -> Result<Bytes, Fail> {
+    match content {
+        Content::Line(line) => Ok(Bytes::new(bytes_of(alloc, line)?)),
+        Content::Text(text) => Ok(Bytes::from_slice(alloc, text.as_bytes())?),
+        Content::Zeros(size) => {
             let mut zeros = Vec::new(alloc);
             zeros.resize(size as usize, 0)?;
-            Ok(Some(Bytes::new(zeros)))
+            Ok(Bytes::new(zeros))
         }
-        _ => Ok(None),
     }
 }
 
-/// The contents of the files of these entries. One at a path that no repository has has none.
+/// The files of these entries that hold something, and what each holds.
 fn files(alloc: Global, entries: &[Entry<'_>]) -> Result<Vec<(RepoPath, Bytes)>, Fail> {
     let mut files = Vec::new(alloc);
     for entry in entries {
-        let content = content_of(alloc, entry.kind)?;
-        if let (Some(content), Ok(path)) = (content, RepoPath::read(alloc, entry.path)) {
-            files.push((path, content))?;
+        if let Kind::File(content) = entry.kind {
+            let path = RepoPath::read(alloc, entry.path)?;
+            files.push((path, held(alloc, content)?))?;
         }
     }
     Ok(files)
 }
 
-/// The folder of these entries. The calls of these numbers fail.
+/// The folder of these entries, of which directories and files that hold something stand at paths of a repository. The calls of
+/// these numbers fail.
 pub(crate) fn folder_of(
     alloc: Global,
     entries: &[Entry<'_>],

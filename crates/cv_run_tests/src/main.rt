@@ -1,4 +1,4 @@
-//! The tests of `run` of cv_top, as a table: what a line of standard input is, its first word says.
+//! The tests of `run` of cv_top, as a table: what a line of standard input is, its first word says, up to the first blank.
 //!
 //! ```text
 //! # REMARK                    prints itself
@@ -8,6 +8,9 @@
 //! text, scenario, file,
 //! run, try                    runs that are cut, over a vault in memory: `crashes`
 //! ```
+//!
+//! Each line prints one line, but `text`, `file` and `run` print nothing, and `try` may print several. At any other first word, as
+//! that of an empty line or `#` without a blank behind it, the program ends and tells the word.
 #![tactic(auto)]
 
 mod crashes;
@@ -21,12 +24,18 @@ mod runs;
 mod words;
 
 use crashes::Crashes;
+use cv_base::NoMemory;
 use releases::gateway::Gateway;
 use releases::peer::Peer;
 use releases::served_dial::ServedDial;
 use std::alloc::Global;
 use std::test::Fail;
 use words::first_word;
+
+/// The fault of a line whose first word is none of the table's.
+fn unknown(alloc: Global, word: &str) -> Result<Fail, NoMemory> {
+    Ok(Fail::new(format!(in alloc; "no line begins with `{word}`")?))
+}
 
 /// What a line prints, by its first word and those behind it.
 fn answer<P: Peer>(
@@ -48,7 +57,10 @@ fn answer<P: Peer>(
             crashes.add(alloc, word, rest)?;
             return Ok(None);
         }
-        _ => releases::answer(alloc, dial, word, rest)?,
+        "publish" | "again" | "took" | "came" | "ask" | "ls" | "cat" | "stat" => {
+            releases::answer(alloc, dial, word, rest)?
+        }
+        _ => return Err(unknown(alloc, word)?),
     };
     Ok(Some(text))
 }

@@ -1,4 +1,5 @@
 //! What every run has.
+ghost use Rattle.std.specs.Prelude.{◌<◌};
 
 use cv_base::NoMemory;
 use cv_ports::MemoryClock;
@@ -17,10 +18,43 @@ pub(crate) const SEAL: &str = "seal";
 /// The first moment.
 pub(crate) const START: u64 = 1_700_000_000;
 
+/// Of which kind a row is, by which its runs read and may write.
+#[derive(Clone, Copy)]
+pub(crate) enum Row {
+    /// One run.
+    Run,
+    /// Publications, and what is asked behind them.
+    Release,
+    /// Runs that are cut.
+    Crash,
+}
+
+impl Row {
+    /// The most bytes of the input that one read gives.
+    pub(crate) fn piece(self) -> usize
+        ensures { 0 < result }
+    {
+        match self {
+            Row::Run | Row::Release => 100,
+            Row::Crash => 4_096,
+        }
+    }
+
+    /// The most bytes that a run may write on its output.
+    pub(crate) fn room(self) -> usize {
+        match self {
+            Row::Run => 200_000,
+            Row::Release => 20_000,
+            Row::Crash => 16_384,
+        }
+    }
+}
+
 /// The outside of a run but the folder of changes, the links to servers, and what it writes to. The reads of the input and the
 /// writes to the output with these numbers fail.
 #[derive(Drop)]
 pub(crate) struct Outside {
+    pub(crate) row: Row,
     pub(crate) vault: MemoryVault,
     pub(crate) input: Vec<u8>,
     pub(crate) clock: MemoryClock,
@@ -42,9 +76,10 @@ pub(crate) fn clock_at(alloc: Global, seconds: [u32; 3]) -> Result<MemoryClock, 
 }
 
 impl Outside {
-    /// No file and no input, two keys, a seal, and one moment. No call fails.
-    pub(crate) fn bare(alloc: Global) -> Result<Outside, NoMemory> {
+    /// For a row of this kind: no file and no input, two keys, a seal, and one moment. No call fails.
+    pub(crate) fn bare(alloc: Global, row: Row) -> Result<Outside, NoMemory> {
         Ok(Outside {
+            row,
             vault: MemoryVault::new(alloc, Vec::new(alloc))?,
             input: Vec::new(alloc),
             clock: clock_at(alloc, [0, 0, 0])?,

@@ -13,10 +13,13 @@
 //! SHA-1 of all that they took and of all that came on them, and that of what a session replies then to one who asks for the
 //! live leases and for the manifest.
 //!
-//! `folders` says how a folder is written, and `cv_lines` how bytes are. A link is served by the gateway where nothing is said of
-//! it: `undialled` is one that isn't opened, the reads of one that is `failing` fail, and of the reply on `cut 40` only 40 bytes
-//! come. On `says REPLY` comes this, and the gateway isn't asked. Before `others 7200 REQUESTS` it is 7,200 seconds after the first
-//! moment, and others ask this.
+//! `folders` says how a folder is written, and `cv_lines` how the bytes of requests and replies are. In a path, and in a word of a
+//! folder, a backslash, a comma and a `<` are bytes like all others: a path is one word of the run, and the file of a word holds
+//! the word as it stands.
+//!
+//! A link is served by the gateway where nothing is said of it: `undialled` is one that isn't opened, the reads of one that is
+//! `failing` fail, and of the reply on `cut 40` only 40 bytes come. On `says REPLY` comes this, and the gateway isn't asked. Before
+//! `others 7200 REQUESTS` it is 7,200 seconds after the first moment, and others ask this.
 
 mod changes;
 mod folders;
@@ -27,8 +30,8 @@ mod served_source;
 mod told;
 
 use crate::folder::no_change;
-use crate::outside::Outside;
-use crate::running::end_of;
+use crate::outside::{Outside, Row};
+use crate::running::{end_of, owned};
 use changes::changes;
 use cv_lines::{bytes_of, line_of};
 use cv_ports::MemoryFolder;
@@ -43,26 +46,18 @@ use told::publication_text;
 /// Where the repository is served, as a word of a run.
 const URL: &str = "http://h/cvmfs/sw.example.org";
 
-/// The words of a run that publishes a folder at a path.
-fn publication_words(alloc: Global, path: &str) -> Result<String, Fail> {
-    Ok(format!(in alloc; "publish,{URL},{path},changes")?)
-}
-
-/// The words of a run that asks a question on a path.
-fn question_words(alloc: Global, question: &str, path: &str) -> Result<String, Fail> {
-    Ok(format!(in alloc; "{question},{URL},{path}")?)
-}
-
 /// Runs the program on these words, this folder and this dial, and tells how it ends.
 fn run_on<P: Peer>(
     alloc: Global,
-    words: &str,
+    words: &[&str],
     folder: MemoryFolder,
     dial: &mut ServedDial<P>,
 ) -> Result<String, Fail> {
+    let words = owned(alloc, words)?;
+    let outside = Outside::bare(alloc, Row::Release)?;
     let mut own = ServedDial::new(alloc);
     swap(dial, &mut own);
-    let mut end = end_of(alloc, words, Outside::bare(alloc)?, folder, own)?;
+    let mut end = end_of(alloc, words.as_slice(), outside, folder, own)?;
     swap(dial, &mut end.dial);
     let code = end.code;
     let output = line_of(alloc, end.output.as_slice())?;
@@ -78,8 +73,7 @@ fn publish<P: Peer>(alloc: Global, dial: &mut ServedDial<P>, row: &str) -> Resul
     let (words, links) = rest.split_once('|').unwrap_or((rest, ""));
     dial.begin(changes(alloc, links)?);
     let folder = folder_of_words(alloc, words)?;
-    let words = publication_words(alloc, path)?;
-    let end = run_on(alloc, words.as_str(), folder, dial)?;
+    let end = run_on(alloc, &["publish", URL, path, "changes"], folder, dial)?;
     publication_text(alloc, end.as_str(), dial)
 }
 
@@ -91,9 +85,8 @@ fn question<P: Peer>(
     path: &str,
 ) -> Result<String, Fail> {
     dial.begin(Vec::new(alloc));
-    let words = question_words(alloc, word, path)?;
     let folder = no_change(alloc)?;
-    run_on(alloc, words.as_str(), folder, dial)
+    run_on(alloc, &[word, URL, path], folder, dial)
 }
 
 /// The link of a number, from 1 on.
@@ -110,7 +103,7 @@ fn reply<P: Peer>(alloc: Global, dial: &mut ServedDial<P>, requests: &str) -> Re
     line_of(alloc, reply.as_slice())
 }
 
-/// What a row prints, by its first word and those behind it.
+/// What a row prints, by its first word, which is one of those of publications, and what stands behind it.
 pub(crate) fn answer<P: Peer>(
     alloc: Global,
     dial: &mut ServedDial<P>,
@@ -126,7 +119,6 @@ pub(crate) fn answer<P: Peer>(
         "took" => line_of(alloc, link(dial, rest)?.took()),
         "came" => line_of(alloc, link(dial, rest)?.came(alloc)?.as_slice()),
         "ask" => reply(alloc, dial, rest),
-        "ls" | "cat" | "stat" => question(alloc, dial, word, rest),
-        _ => Err(Fail::new("no row")),
+        _ => question(alloc, dial, word, rest),
     }
 }

@@ -1,7 +1,7 @@
 //! A run of the program, and how it ends.
 
 use crate::folder::no_change;
-use crate::outside::{Outside, REPOSITORY};
+use crate::outside::{Outside, Row};
 use cv_base::NoMemory;
 use cv_ports::{Dial, MemoryClock, MemoryDial, MemoryFolder, MemorySink, MemorySource, NoHold};
 use cv_top::{Parts, Status, run};
@@ -9,11 +9,8 @@ use cv_vault::MemoryVault;
 use std::alloc::Global;
 use std::test::Fail;
 
-/// The most bytes that a run may write on its output.
-const ROOM: usize = 200_000;
-
-/// The most bytes of the line on its status.
-const LINE_ROOM: usize = 20_000;
+/// The most bytes of the line on a run's status.
+const LINE_ROOM: usize = 100;
 
 /// How a run ends.
 #[derive(Drop)]
@@ -37,23 +34,18 @@ type Memory<N> = Parts<
     NoHold,
 >;
 
-/// The words of a run that does a command on the repository, with a comma between each two.
-pub(crate) fn words_on(alloc: Global, command: &str) -> Result<String, NoMemory> {
-    Ok(format!(in alloc; "{command},{REPOSITORY}")?)
-}
-
-/// The words of a text, with a comma between each two.
-fn words_of(alloc: Global, text: &str) -> Result<Vec<String>, NoMemory> {
-    let mut words = Vec::new(alloc);
-    for word in text.split(',') {
-        words.push(String::from_str(alloc, word)?)?;
+/// The words of a run as texts of their own.
+pub(crate) fn owned(alloc: Global, words: &[&str]) -> Result<Vec<String>, NoMemory> {
+    let mut owned = Vec::new(alloc);
+    for word in words {
+        owned.push(String::from_str(alloc, word)?)?;
     }
-    Ok(words)
+    Ok(owned)
 }
 
-/// What a run writes to: its output, of which the writes of these numbers fail, and its status.
-fn sinks(alloc: Global, failing: Vec<u64>) -> Result<(MemorySink, MemorySink), NoMemory> {
-    let output = MemorySink::new(alloc, ROOM, failing)?;
+/// What a run of a row writes to: its output, of which the writes of these numbers fail, and its status.
+fn sinks(alloc: Global, row: Row, failing: Vec<u64>) -> Result<(MemorySink, MemorySink), NoMemory> {
+    let output = MemorySink::new(alloc, row.room(), failing)?;
     let errors = MemorySink::new(alloc, LINE_ROOM, Vec::new(alloc))?;
     Ok((output, errors))
 }
@@ -66,6 +58,7 @@ fn parts_of<N: Dial + Drop>(
     dial: N,
 ) -> Result<Memory<N>, NoMemory> {
     let Outside {
+        row,
         vault,
         input,
         clock,
@@ -74,10 +67,10 @@ fn parts_of<N: Dial + Drop>(
         reads,
         writes,
     } = outside;
-    let (output, errors) = sinks(alloc, writes)?;
+    let (output, errors) = sinks(alloc, row, writes)?;
     Ok(Parts {
         vault,
-        input: MemorySource::new(input, 100, reads),
+        input: MemorySource::new(input, row.piece(), reads),
         output,
         errors,
         clock,
@@ -94,17 +87,16 @@ fn run_parts<N: Dial>(alloc: Global, words: &[String], parts: Memory<N>) -> (Sta
     run(alloc, words, parts)
 }
 
-/// How a run of these words ends, with a comma between each two.
+/// How a run of these words ends.
 pub(crate) fn end_of<N: Dial + Drop>(
     alloc: Global,
-    words: &str,
+    words: &[String],
     outside: Outside,
     folder: MemoryFolder,
     dial: N,
 ) -> Result<End<N>, NoMemory> {
-    let words = words_of(alloc, words)?;
     let parts = parts_of(alloc, outside, folder, dial)?;
-    let (status, parts) = run_parts(alloc, words.as_slice(), parts);
+    let (status, parts) = run_parts(alloc, words, parts);
     Ok(End {
         code: status.code(),
         output: parts.output.into_vec(),
@@ -114,10 +106,10 @@ pub(crate) fn end_of<N: Dial + Drop>(
     })
 }
 
-/// How a run of these words ends, with a comma between each two, that has no change and no link.
+/// How a run of these words ends that has no change and no link.
 pub(crate) fn end_alone(
     alloc: Global,
-    words: &str,
+    words: &[String],
     outside: Outside,
 ) -> Result<End<MemoryDial>, Fail> {
     let folder = no_change(alloc)?;

@@ -1,5 +1,5 @@
-//! Rows of one run each. Such a row is the words of the run with a comma between each two, and behind them what it has, a bar
-//! before each part:
+//! Rows of one run each. Behind `cvkit` and a blank stand the words of the run, with a comma between each two, and behind them what
+//! it has, a bar before each part:
 //!
 //! ```text
 //! in INPUT               what it reads: nothing without this part
@@ -24,8 +24,9 @@
 mod given;
 mod items;
 
-use crate::outside::Outside;
-use crate::running::{End, end_alone, words_on};
+use crate::outside::{Outside, REPOSITORY, Row};
+use crate::running::{End, end_alone, owned};
+use cv_base::NoMemory;
 use cv_lines::line_of;
 use cv_ports::MemoryDial;
 use cv_vault::{MemoryVault, Vault};
@@ -35,11 +36,20 @@ use std::test::Fail;
 
 /// What a run has of which its row says no more: the repository that was made at the first moment.
 fn usual(alloc: Global) -> Result<Outside, Fail> {
-    let words = words_on(alloc, "init")?;
-    let made = end_alone(alloc, words.as_str(), Outside::bare(alloc)?)?;
-    let mut outside = Outside::bare(alloc)?;
+    let words = owned(alloc, &["init", REPOSITORY])?;
+    let made = end_alone(alloc, words.as_slice(), Outside::bare(alloc, Row::Run)?)?;
+    let mut outside = Outside::bare(alloc, Row::Run)?;
     outside.vault = made.vault;
     Ok(outside)
+}
+
+/// The words of a text, with a comma between each two.
+fn words_of(alloc: Global, text: &str) -> Result<Vec<String>, NoMemory> {
+    let mut words = Vec::new(alloc);
+    for word in text.split(',') {
+        words.push(String::from_str(alloc, word)?)?;
+    }
+    Ok(words)
 }
 
 /// All that the links took that came back to a dial.
@@ -89,10 +99,10 @@ fn text_of(alloc: Global, end: End<MemoryDial>) -> Result<String, Fail> {
 /// What a row prints.
 pub(crate) fn answer(alloc: Global, row: &str) -> Result<String, Fail> {
     let mut parts = row.split('|');
-    let words = parts.next().unwrap_or("");
+    let words = words_of(alloc, parts.next().unwrap_or(""))?;
     let mut given = Given::new(alloc, usual(alloc)?);
     for part in parts {
         given.take(alloc, part)?;
     }
-    text_of(alloc, given.end_of(alloc, words)?)
+    text_of(alloc, given.end_of(alloc, words.as_slice())?)
 }

@@ -73,7 +73,7 @@ impl Given {
     }
 
     /// How a run of these words ends that has this.
-    pub(crate) fn end_of(self, alloc: Global, words: &str) -> Result<End<MemoryDial>, Fail> {
+    pub(crate) fn end_of(self, alloc: Global, words: &[String]) -> Result<End<MemoryDial>, Fail> {
         let Given {
             outside,
             links,
