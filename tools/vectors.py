@@ -59,9 +59,9 @@ def settle_lines(crate, rows):
     """Writes the lines that a program of tests is given and those that it has to print, or compares them with its files."""
     name = os.path.basename(sys.argv[0])
     checks = is_check(name)
-    files = [f"crates/{crate}/{file}" for file in ("stdin", "stdout")]
-    for file, lines in zip(files, zip(*rows)):
-        made = "".join(line + "\n" for line in lines if line is not None)
+    texts = ("".join(line + "\n" for line in lines if line is not None) for lines in zip(*rows))
+    files = {f"crates/{crate}/{file}": made for file, made in zip(("stdin", "stdout"), texts)}
+    for file, made in files.items():
         with open(os.path.join(TOP, file), "r" if checks else "w", encoding="utf-8") as there:
             if not checks:
                 there.write(made)
