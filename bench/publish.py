@@ -11,7 +11,8 @@ in the client. One tool runs after the other, five times, and the middle time of
 
 Then the folder has 10,000 such files, and `cvkit publish` takes the client's place: its time is that of its process, whose gateway
 is one `cvkit stdio` behind a small listener in Python (`tools/cvkit_gateway.py`), and it has the most memory that its process had.
-Ten files are changed, and published again: by cvkit as a folder of these ten, by the others as the whole folder.
+Ten files are changed, and published again: by cvkit as a folder of these ten, by the others as the whole folder. Before that
+`cvkit publish` does the same with 1,000 files, which tells what the other files of the catalogue add to the ten.
 
 No repository is removed before the last run has ended: ext4 takes no inode again that was removed in the last minutes, and looks
 all of these through for each new file.
@@ -273,6 +274,8 @@ def script(program, short):
     times = 1 if short else 5
     with contextlib.ExitStack() as kept:
         measure([Cvkit(program), OSTREE, RESTIC], 5 if short else 1_000, times, short, kept)
+        if not short:
+            measure([Publisher(program)], 1_000, times, short, kept)
         measure([Publisher(program), OSTREE, RESTIC], 5 if short else 10_000, times, short, kept)
 
 

@@ -25,16 +25,16 @@ pub struct PackWriter<'a> {
 }
 
 impl<'a> Model for PackWriter<'a> {
-    ghost use Rattle.std.specs.Prelude.{List, ◌≡◌};
+    ghost use Rattle.std.specs.Prelude.{List, ◌≡◌, map};
     ghost use Rattle.cv_base.specs.declared.object.Object.{Object};
     ghost use Rattle.cv_pack.specs.Pack.{IsPack, contents_size};
-    ghost use Rattle.cv_pack.specs.PackInner.{lent};
 
     ghost Value = { List Object };
 
-    ghost view = { λ w. lent w.objects.items };
+    ghost view = { λ w. map (λ o. o.now) w.objects.items };
 
-    ghost invariant = { λ w. IsPack (lent w.objects.items) × (w.total ≡ contents_size (lent w.objects.items)) };
+    ghost invariant = { λ w. IsPack (map (λ o. o.now) w.objects.items)
+        × (w.total ≡ contents_size (map (λ o. o.now) w.objects.items)) };
 }
 
 /// Adds a number in decimal.
