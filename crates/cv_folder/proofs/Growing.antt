@@ -96,8 +96,8 @@ module _ {S F N : Type 0} (log : S → Log) (before after : FolderVault S F N) w
   -- a file was found
   pub found_grows : (root name : List ℕ) (hold : Hold F) (seen : Seen) → Acts log (FindsNamed {E = Error} root name hold (Ok (Some seen))) before after → Grows (log before.system) (log after.system)
   unfolding Acts FindsNamed HasFile
-  found_grows root name hold seen (asked, asks, (held, named, (through, folders, is_file, is))) =
-      steps_then (asks_grow (string_bytes before.root) before.hold after.hold _ asked asks) (Then (sees_grow _ asked through folders) (Looked (path_of root name) (Ok seen), tt, is))
+  found_grows root name hold seen (asked, asks, (held, named, (is_file, folders))) =
+      steps_then (Then (asks_grow (string_bytes before.root) before.hold after.hold _ asked asks) (Looked (path_of root name) (Ok seen), tt, refl)) (sees_grow _ _ _ folders)
 
 -- a file that is created anew
 pub anew_grows : (at : List ℕ) (all : Bool) (before after : Log) → TriesAnew at [] all before after → Grows before after

@@ -50,15 +50,15 @@ module _ (root : List ℕ) where
   module _ {F : Type 0} (name : List ℕ) (hold : Hold F) (before after : Log) where
     pub has_quiet : (seen : Seen) → HasFile root name hold seen before after → Makes (Quiet root) before after
     unfolding HasFile
-    has_quiet seen (held, named, (through, folders, is_file, is)) =
-        Then (sees_quiet (folders_past (length root + 1) (path_of root name)) before through folders) (Looked (path_of root name) (Ok seen), (tt, tt), is)
+    has_quiet seen (held, named, (is_file, folders)) =
+        steps_then (one_call (Looked (path_of root name) (Ok seen)) (tt, tt) refl) (sees_quiet (folders_past (length root + 1) (path_of root name)) _ after folders)
 
     pub lacks_quiet : LacksFile root name hold before after → Makes (Quiet root) before after
     unfolding LacksFile
     lacks_quiet (inl (absent, same)) = no_step same
-    lacks_quiet (inr (held, named, inl misses)) = misses_quiet (folders_past (length root + 1) (path_of root name)) before after misses
-    lacks_quiet (inr (held, named, inr (through, seen, folders, none, is))) =
-        Then (sees_quiet (folders_past (length root + 1) (path_of root name)) before through folders) (Looked (path_of root name) seen, (tt, tt), is)
+    lacks_quiet (inr (held, named, inl (told, none, is))) = one_call (Looked (path_of root name) told) (tt, tt) is
+    lacks_quiet (inr (held, named, inr (seen, is_file, misses))) =
+        steps_then (one_call (Looked (path_of root name) (Ok seen)) (tt, tt) refl) (misses_quiet (folders_past (length root + 1) (path_of root name)) _ after misses)
 
     pub in_vain_quiet : LooksInVain root name hold before after → Makes (Quiet root) before after
     unfolding LooksInVain

@@ -92,5 +92,5 @@ module _ {S F N : Type 0} (log : S → Log) (before after : FolderVault S F N) w
   -- a file was found
   pub found_well : (root name : List ℕ) (seen : Seen) → Acts log (FindsNamed {E = Error} root name after.hold (Ok (Some seen))) before after → GoesOn IsNothing (log before.system) (log after.system)
   unfolding Acts FindsNamed HasFile
-  found_well root name seen (asked, asks, (held, named, (through, folders, is_file, is))) =
-      steps_then (asks_well (string_bytes before.root) before.hold after.hold _ asked (held_asked after.hold held) asks) (Then (sees_well _ asked through folders) (Looked (path_of root name) (Ok seen), tt, is))
+  found_well root name seen (asked, asks, (held, named, (is_file, folders))) =
+      steps_then (Then (asks_well (string_bytes before.root) before.hold after.hold _ asked (held_asked after.hold held) asks) (Looked (path_of root name) (Ok seen), tt, refl)) (sees_well _ _ _ folders)

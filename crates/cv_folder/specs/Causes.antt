@@ -52,7 +52,7 @@ SeesNoFolder before after =
 unfoldable pub FailsOnWay : Cause → Log → Log → Type 0
 FailsOnWay cause before after = EndsFailed cause before after ⊎ ((cause.kind ≡ NotADirectory) × SeesNoFolder before after)
 
--- the last call but one failed, and the last one removed what was made by then: the file of a name, or the vault's folder
+-- the last call but one failed, and the last one removed what stands where the file of a name is made, or the vault's folder
 abbrev pub FailsAndLeaves : List ℕ → List ℕ → Cause → Log → Log → Type 0
 FailsAndLeaves root at cause before after =
     (failed : Log) × (gone : Outcome) × EndsFailed cause before failed

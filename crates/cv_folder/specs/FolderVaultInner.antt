@@ -68,7 +68,7 @@ FailsToMake root hold cause before after =
 unfoldable pub FailsToMoveOn : {F : Type 0} → List ℕ → List ℕ → Hold F → Cause → Log → Log → Type 0
 FailsToMoveOn root to hold cause before after = ((cause.kind ≡ InvalidInput) × IsRefused root to hold) ⊎ FailsOnWay cause before after
 
--- the last call failed for this cause; or the last but one did, and the last one removed the file that was made for a name
+-- the last call failed for this cause; or the last but one did, and the last one removed what stands where the file of a name is made
 abbrev pub FailsOrRemoves : List ℕ → Cause → Log → Log → Type 0
 FailsOrRemoves at cause before after =
     EndsFailed cause before after ⊎ ((failed : Log) × (gone : Outcome) × EndsFailed cause before failed × (after ≡ and_call (Removed at gone) failed))

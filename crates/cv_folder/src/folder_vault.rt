@@ -31,7 +31,7 @@ use std::alloc::{AllocError, Global};
 ///
 /// A write makes a new file beside the name, makes its bytes durable and then gives it the name, so that a name has whole
 /// files at all times, and a file that others have under another name isn't changed. Only a way is made anew at its own
-/// path, and the sync of its bytes is begun: what stood there is gone once a file is made, also where the write fails behind
+/// path, and the sync of its bytes is begun: what stood there is removed first, and gone also where the write fails behind
 /// that, and a crash before the next sync is done may leave a part of the bytes under the way, or others, as of each name
 /// that was written since the last one. A way that is renamed by then leaves that to its new name, which no later process
 /// makes durable. A sync ends the syncs that were begun, and then makes the folders durable that changed since the last one.

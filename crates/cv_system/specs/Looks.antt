@@ -61,17 +61,15 @@ MissesFolder (folder ∷ folders) before after =
     ((seen : Result Seen Cause) × IsNoFolder seen × (after ≡ and_call (Looked folder seen) before))
     ⊎ ((seen : Seen) × (seen.kind ≡ Folder) × MissesFolder folders (and_call (Looked folder (Ok seen)) before) after)
 
--- a regular file is found at a path: folders stand on the way to it, and then it was seen
+-- a regular file is found at a path: it was seen there, and then folders were on the way to it
 abbrev pub FindsFile : ℕ → List ℕ → Seen → Log → Log → Type 0
-FindsFile from path seen before after =
-    (through : Log) × SeesFolders (folders_past from path) before through × (seen.kind ≡ File) × (after ≡ and_call (Looked path (Ok seen)) through)
+FindsFile from path seen before after = (seen.kind ≡ File) × SeesFolders (folders_past from path) (and_call (Looked path (Ok seen)) before) after
 
--- none is: something on the way is no folder, or what was seen at the path is no regular file
+-- none is: what was seen at the path is no regular file, or one was seen there, and then something on the way is no folder
 abbrev pub MissesFile : ℕ → List ℕ → Log → Log → Type 0
 MissesFile from path before after =
-    MissesFolder (folders_past from path) before after
-    ⊎ ((through : Log) × (seen : Result Seen Cause) × SeesFolders (folders_past from path) before through × IsNoFile seen
-    × (after ≡ and_call (Looked path seen) through))
+    ((told : Result Seen Cause) × IsNoFile told × (after ≡ and_call (Looked path told) before))
+    ⊎ ((seen : Seen) × (seen.kind ≡ File) × MissesFolder (folders_past from path) (and_call (Looked path (Ok seen)) before) after)
 
 -- a regular file is looked for at a path
 abbrev pub Finds : ℕ → List ℕ → Result (Option Seen) Error → Log → Log → Type 0

@@ -118,16 +118,21 @@ pub fn has_folders<S: System>(system: &mut S, path: &str, from: usize) -> io::Re
     Ok(true)
 }
 
-/// The regular file at a path, if one is there. The first `from` bytes of the path aren't looked at.
+/// The regular file at a path, if one is there. The first `from` bytes of the path aren't looked at. Where no file is at the
+/// path, whatever leads there, one look is enough.
 pub fn find_file<S: System>(system: &mut S, path: &str, from: usize) -> io::Result<Option<Seen>>
     ensures finds { Finds from path.now result (S.log system.old) (S.log system.new) }
     ensures fails { IfErr result (λ error. EndsFailed (cause_of error) (S.log system.old)
         (S.log system.new)) }
 {
-    if !has_folders(system, path, from)? {
+    let Some(found) = seen(system, path)?.filter(|found| found.is_file()) else {
         return Ok(None);
+    };
+    if has_folders(system, path, from)? {
+        Ok(Some(found))
+    } else {
+        Ok(None)
     }
-    Ok(seen(system, path)?.filter(|found| found.is_file()))
 }
 
 /// Opens a file that was found. What has come into its place since then is not read.
