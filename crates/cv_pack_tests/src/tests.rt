@@ -270,11 +270,11 @@ fn add<'a>(writer: &mut PackWriter<'a>, object: &'a Object) -> Option<Result<(),
     if id != object.id || id.kind == Kind::History || writer.has(&object.id) {
         return None;
     }
-    Some(writer.add(object))
+    Some(writer.add(&object.id, object.bytes.as_slice()))
 }
 
-/// The pack that is written of the two objects, if both are added, and how many bytes its contents have.
-fn written(alloc: Global) -> Result<Option<(Vec<u8>, usize)>, Fail> {
+/// The pack that is written of the two objects, if both are added, in parts and at once, and how many bytes its contents have.
+fn written(alloc: Global) -> Result<Option<(Vec<u8>, Bytes, usize)>, Fail> {
     let hello = object_of(alloc, Kind::Plain, HELLO)?;
     let catalogue = object_of(alloc, Kind::Catalogue, &CATALOGUE)?;
     let mut writer = PackWriter::new(alloc);
@@ -283,16 +283,18 @@ fn written(alloc: Global) -> Result<Option<(Vec<u8>, usize)>, Fail> {
     if first != Some(Ok(())) || second != Some(Ok(())) {
         return Ok(None);
     }
-    let mut bytes = writer.header()?;
-    writer.append_contents(&mut bytes)?;
-    Ok(Some((bytes, writer.contents_size())))
+    let mut parts = writer.header()?;
+    writer.append_contents(&mut parts)?;
+    let size = writer.contents_size();
+    Ok(Some((parts, writer.finish()?, size)))
 }
 
 #[test]
 fn writes_two_objects(rt: HostRuntime) -> Result<(), Fail> {
     let expected = two_objects(rt.alloc(), HELLO)?;
-    let (bytes, size) = written(rt.alloc())?.ok_or("not added")?;
-    assert_eq!(rt; bytes.as_slice(), expected.as_slice());
+    let (parts, pack, size) = written(rt.alloc())?.ok_or("not added")?;
+    assert_eq!(rt; parts.as_slice(), expected.as_slice());
+    assert_eq!(rt; pack.as_slice(), expected.as_slice());
     assert_eq!(rt; size, 177);
     Ok(())
 }

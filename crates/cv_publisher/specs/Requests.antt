@@ -56,7 +56,7 @@ object_request plan id = file_request plan (file_name id)
 
 -- ---- payloads
 
--- it says the digest and the length of a header
+-- it says the token, and the digest and the length of a header
 abbrev pub message_of_header : Token → List ℕ → List ℕ
 message_of_header token header = compact_text (payload_ask_data (record { token = token_text token; digest = sha1 header; header_size = length header }))
 

@@ -60,7 +60,8 @@ pub(crate) fn filled<'a>(
 {
     let mut writer = PackWriter::new(alloc);
     for place in places {
-        if writer.add(object_at(contents, catalogues, *place)).is_err() {
+        let object = object_at(contents, catalogues, *place);
+        if writer.add(&object.id, object.bytes.as_slice()).is_err() {
             return Err(NoMemory);
         }
     }
