@@ -12,7 +12,9 @@ in the client. One tool runs after the other, five times, and the middle time of
 Then the folder has 10,000 such files, and `cvkit publish` takes the client's place: its time is that of its process, whose gateway
 is one `cvkit stdio` behind a small listener in Python (`tools/cvkit_gateway.py`), and it has the most memory that its process had.
 Ten files are changed, and published again: by cvkit as a folder of these ten, by the others as the whole folder. Before that
-`cvkit publish` does the same with 1,000 files, which tells what the other files of the catalogue add to the ten.
+`cvkit publish` does the same with 1,000 files, which tells what the other files of the catalogue add to the ten. Then it publishes
+1,000 and 10,000 such files as a directory with a catalogue of its own, and ten beside it as another, which are changed then: that
+tells what files in other catalogues add.
 
 No repository is removed before the last run has ended: ext4 takes no inode again that was removed in the last minutes, and looks
 all of these through for each new file.
@@ -158,8 +160,8 @@ class Publisher:
     def lacks(self):
         return False
 
-    def run(self, place, port, folder, revision):
-        words = [self.program, "publish", f"http://127.0.0.1:{port}/cvmfs/{REPOSITORY}", "/files", folder]
+    def run(self, place, port, path, folder, revision):
+        words = [self.program, "publish", f"http://127.0.0.1:{port}/cvmfs/{REPOSITORY}", path, folder]
         output, seconds, peak = run_measured(words, place)
         expect(output == b"revision %d\n" % revision, "what a publication printed", output)
         return seconds, peak
@@ -167,12 +169,12 @@ class Publisher:
     def publish(self, folder, kept):
         place = kept.enter_context(repository(self.program))
         with gateway(self.program, place) as (port, _):
-            seconds, peak = self.run(place, port, folder, 2)
+            seconds, peak = self.run(place, port, "/files", folder, 2)
             changes = os.path.join(place, "changes")
             os.mkdir(changes)
             for name in change(folder):
                 shutil.copy2(os.path.join(folder, name), changes)
-            again, second_peak = self.run(place, port, changes, 3)
+            again, second_peak = self.run(place, port, "/files", changes, 3)
         names = {name: object_path(place, digest_of(content)) for name, content in contents_of(folder).items()}
         look({name: read_file(path) for name, path in names.items()}, folder)
         return Taken(seconds, 0, again, max(peak, second_peak))
@@ -180,6 +182,30 @@ class Publisher:
     def syncs(self, _folder):
         """They are the gateway's, as those of `cvkit stdio`."""
         return None
+
+
+class Apart(Publisher):
+    """The same, of a directory with a catalogue of its own, and of ten files beside it in another, which are changed then."""
+
+    name = "cvkit publish, the ten in a catalogue of their own"
+
+    def publish(self, folder, kept):
+        place = kept.enter_context(repository(self.program))
+        others, ten = os.path.join(place, "others"), os.path.join(place, "ten")
+        shutil.copytree(folder, others)
+        make_files(ten, CHANGED)
+        marks = [os.path.join(one, ".cvmfscatalog") for one in (others, ten)]
+        for mark in marks:
+            open(mark, "wb").close()
+        with gateway(self.program, place) as (port, _):
+            seconds, peak = self.run(place, port, "/files", others, 2)
+            self.run(place, port, "/ten", ten, 3)
+            os.remove(marks[1])
+            change(ten)
+            again, _ = self.run(place, port, "/ten", ten, 4)
+        names = {name: object_path(place, digest_of(content)) for name, content in contents_of(ten).items()}
+        look({name: read_file(path) for name, path in names.items()}, ten)
+        return Taken(seconds, 0, again, peak)
 
 
 class Tool:
@@ -275,8 +301,9 @@ def script(program, short):
     with contextlib.ExitStack() as kept:
         measure([Cvkit(program), OSTREE, RESTIC], 5 if short else 1_000, times, short, kept)
         if not short:
-            measure([Publisher(program)], 1_000, times, short, kept)
+            measure([Publisher(program), Apart(program)], 1_000, times, short, kept)
         measure([Publisher(program), OSTREE, RESTIC], 5 if short else 10_000, times, short, kept)
+        measure([Apart(program)], 5 if short else 10_000, 1 if short else 3, short, kept)
 
 
 main(script)
