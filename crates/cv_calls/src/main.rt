@@ -10,7 +10,7 @@
 //! also=ROOT             opens a second vault, over ROOT, and reads `file` there
 //! items=FOLDER>PATH     lists a directory of a folder of changes: each name with `/`, `=`, `>` or `!` for what it is
 //! content=FOLDER>PATH   reads a file of a folder of changes, and prints how many bytes it gives
-//! root=FOLDER           names the folder of changes of the next two calls, which is one from the first call to the last
+//! root=FOLDER           names the folder of changes that `dir` and `file` read, one folder until the next `root`
 //! dir=PATH              lists a directory of it, as `items`, whose files are then read ahead
 //! file=PATH             reads a file of it, and prints the hash of the bytes it gives
 //! memory=COUNT          writes COUNT names into a vault in memory and syncs, lists ten, changes one and syncs, and prints
