@@ -26,8 +26,8 @@ use std::alloc::{AllocError, Global};
 ///
 /// A name has parts between slashes, none of which is empty, `.`, `..` or begins with `.cvkit-`, and no byte of it is NUL.
 /// Each call with another text fails. A name is there exactly where a regular file stands at it and folders stand above it
-/// up to the vault's own. Links, special files and what stands behind a link to a folder aren't names: no call opens,
-/// follows or removes one, but a write or a rename takes the place of one at its last part. It tells nothing of content.
+/// up to the vault's own. Links, special files and what stands behind a link to a folder aren't names: no call opens
+/// or removes one, but a write or a rename takes the place of one at its last part. It tells nothing of content.
 ///
 /// A write makes a new file beside the name, makes its bytes durable and then gives it the name, so that a name has whole
 /// files at all times, and a file that others have under another name isn't changed. Only a way is made anew at its own

@@ -184,6 +184,7 @@ impl<'a> PackWriter<'a> {
         ensures reads_back { IfOk result (λ bytes. reading bytes ≡ Ok self.entry) }
     {
         let mut pack = self.header()?;
+        pack.reserve(self.total)?;
         self.append_contents(&mut pack)?;
         Ok(Bytes::new(pack))
     }

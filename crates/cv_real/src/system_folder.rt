@@ -25,8 +25,8 @@ use std::io::ErrorKind;
 use std::rt::Files;
 use std::thread::Threads;
 
-/// A real folder, which may be given by a link. Below it no link is followed, and nothing but folders and regular files is
-/// opened. It tells the name, and nothing of content.
+/// A real folder, which may be given by a link. What is behind a link below it is neither listed nor read, and nothing but
+/// folders and regular files is opened. It tells the name, and nothing of content.
 ///
 /// A call fails where the path isn't, through folders alone, that of a folder to list or of a regular file to read; where the
 /// folder or file can't be read; and where no folder was named. A listing fails where a name or the text of a link isn't

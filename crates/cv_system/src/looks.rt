@@ -1,5 +1,5 @@
-//! What stands at a path, without going through a link. A folder's path ends in a slash: the system then opens nothing but a
-//! folder there.
+//! What stands at a path: a link at its end is told as a link. A folder's path ends in a slash: the system then opens nothing
+//! but a folder there.
 ghost use Rattle.std.specs.Prelude.{◌≡◌, ◌≢◌, ◌↔◌, ◌<◌, Ok, IfErr, IfOk, OnOk, IsSome, IfSome, IfNone, IsTrue, length, slice_index, take, true, false};
 ghost use Rattle.cv_system.specs.Calls.{IsWant, cause_of};
 ghost use Rattle.cv_system.specs.Looks.{FailsToOpen, FailsToReadFile, Finds, Looks, LooksAtEntry, MissesFolder, OpensFile, ReadsFile, SeesFolders, folders_at, folders_past};
@@ -119,7 +119,8 @@ pub fn has_folders<S: System>(system: &mut S, path: &str, from: usize) -> io::Re
 }
 
 /// The regular file at a path, if one is there. The first `from` bytes of the path aren't looked at. Where no file is at the
-/// path, whatever leads there, one look is enough.
+/// path, whatever leads there, one look is enough. That look may go through a link on the way: a file that it sees counts only
+/// where folders alone are on the way, as the looks behind it tell.
 pub fn find_file<S: System>(system: &mut S, path: &str, from: usize) -> io::Result<Option<Seen>>
     ensures finds { Finds from path.now result (S.log system.old) (S.log system.new) }
     ensures fails { IfErr result (λ error. EndsFailed (cause_of error) (S.log system.old)
